@@ -1,0 +1,4 @@
+pub mod Audits
+pub mod Kept
+pub mod Sound
+pub mod Strings

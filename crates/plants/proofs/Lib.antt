@@ -1,0 +1,4 @@
+pub mod Bits
+pub mod Joins
+pub mod Ranges
+pub mod Rows

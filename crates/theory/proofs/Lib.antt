@@ -1,0 +1,13 @@
+pub mod Legality
+pub mod Fusion
+pub mod Rules
+pub mod Turns
+pub mod Runs
+pub mod Interleaving
+pub mod Pairs
+pub mod Rounds
+pub mod Closure
+pub mod Estimates
+pub mod Votes
+pub mod Worked
+pub mod Variants

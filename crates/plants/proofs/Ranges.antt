@@ -160,3 +160,10 @@ masks-equal (suc n) a b ha hb same =
     let halves = masks-equal n (a / 2) (b / 2) (omega arith) (omega arith) (λ k low. bit-half a k ∙ same (suc k) (omega arith) ∙ sym (bit-half b k)) in
     let odd : eqb (a % 2) 1 ≡ eqb (b % 2) 1 = sym (bit-low a) ∙ same 0 (omega arith) ∙ bit-low b in
     grind (arith, tells)
+
+-- one number that fails, and none that passes
+pub all-broken : (n : ℕ) (f : ℕ → Bool) (k : ℕ) → k < n → f k ≡ false → all n f ≡ false
+all-broken n f k low fails = ⊎-elim (λ t. absurd (both-ways (f k) fails (all-at n f t k low))) (λ h. h) (cases-bool (all n f))
+
+pub any-nowhere : (n : ℕ) (f : ℕ → Bool) → ((k : ℕ) → k < n → f k ≡ false) → any n f ≡ false
+any-nowhere n f fails = ⊎-elim (λ t. let (k, low, passes) = any-found n f t in absurd (both-ways (f k) (fails k low) passes)) (λ h. h) (cases-bool (any n f))

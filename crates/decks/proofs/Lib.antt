@@ -1,0 +1,3 @@
+pub mod Shapes
+pub mod Steps
+pub mod Unique

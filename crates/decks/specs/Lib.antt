@@ -1,0 +1,4 @@
+pub mod Said
+pub mod Order
+pub mod Reader
+pub mod Decks

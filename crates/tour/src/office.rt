@@ -10,10 +10,14 @@ use std::error::AnyError;
 
 pub const RELEASE: Event = 2;
 
-// Event 2 is conjunctive: it is released when both offices say yes.
-pub fn problem() -> Result<Problem, AnyError> {
+// The modes that make the release conjunctive and disjunctive.
+pub const BOTH_SAY_YES: Mask = 0;
+
+pub const ONE_SAYS_YES: Mask = 4;
+
+pub fn problem(modes: Mask) -> Result<Problem, AnyError> {
     let mut problem = Problem::new();
-    match problem.make(3, 2, 0, [1, 2, 0, 0], [4, 4, 0, 0]) {
+    match problem.make(3, 2, modes, [1, 2, 0, 0], [4, 4, 0, 0]) {
         Ok(()) => Ok(problem),
         Err(_) => Err("the problem cannot be made".into()),
     }

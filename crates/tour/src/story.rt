@@ -14,7 +14,7 @@ use plants::TablePlant;
 use std::error::AnyError;
 
 pub fn tell(rt: &LibcRuntime) -> Result<(), AnyError> {
-    let problem = office::problem()?;
+    let problem = office::problem(office::BOTH_SAY_YES)?;
     let plant = office::plant(rt.alloc())?;
     let spec = office::specification(rt.alloc())?;
     set_up(rt, &problem, &plant, &spec)?;

@@ -1,0 +1,4 @@
+pub mod Bounds
+pub mod Verdicts
+pub mod Tied
+pub mod Spelling

@@ -1,0 +1,4 @@
+pub mod Sizes
+pub mod Answers
+pub mod Decisions
+pub mod Traces

@@ -7,9 +7,11 @@ ghost use Rattle.control.specs.Systems.{system};
 ghost use Rattle.theory.specs.Estimates.{pairs};
 ghost use Rattle.check.specs.Answers.{Checked};
 ghost use Rattle.sites.specs.Sites.{most-pairs};
-ghost use Rattle.sessions.specs.Calls.{first-site, first-sites, is-clear, opened};
+ghost use Rattle.sessions.specs.Calls.{Does, first-site, first-sites, is-clear, opened};
 ghost use Rattle.sessions.specs.Histories.{ClearExactly};
 ghost use Rattle.sessions.specs.Status.{status};
+use crate::call::Call;
+use crate::call::Reply;
 use crate::session::Round;
 use crate::session::Session;
 use crate::session::Site;
@@ -25,6 +27,23 @@ impl Session {
     // Runs the check. If it is clear, plant and estimates start at their first, with a round without ballots; otherwise the
     // session stays as it was found. Cells and trace are lent to the check.
     pub fn open<P: Plant, S: Plant>(
+        &mut self,
+        problem: &Problem,
+        plant: &P,
+        spec: &S,
+        cells: &mut [u64],
+        trace: &mut [Move],
+    ) -> Result<Verdict, Unchecked>
+        ensures does { λ r. ⌜ Does (system (setup (now (problem .entry))) (P·Plant .meaning (now (plant .entry))) (S·Plant .meaning (now (spec .entry)))) (status (now (self .entry))) Call.Open (Reply.Checked r) (status (now (self .exit))) ⌝ }
+        ensures checked { λ r. ⌜ Checked (system (setup (now (problem .entry))) (P·Plant .meaning (now (plant .entry))) (S·Plant .meaning (now (spec .entry)))) (now (cells .entry)) (now (cells .exit)) (now (trace .entry)) (now (trace .exit)) r ⌝ }
+        ensures after { λ r. ⌜ status (now (self .exit)) ≡ cond (is-clear r) (opened (system (setup (now (problem .entry))) (P·Plant .meaning (now (plant .entry))) (S·Plant .meaning (now (spec .entry))))) (status (now (self .entry))) ⌝ }
+        ensures clear { λ r. ⌜ ClearExactly (system (setup (now (problem .entry))) (P·Plant .meaning (now (plant .entry))) (S·Plant .meaning (now (spec .entry)))) r ⌝ }
+    {
+        self.begin(problem, plant, spec, cells, trace)
+    }
+
+    // The call itself.
+    fn begin<P: Plant, S: Plant>(
         &mut self,
         problem: &Problem,
         plant: &P,

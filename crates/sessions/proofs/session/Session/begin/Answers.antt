@@ -2,7 +2,7 @@ use Rattle.control.specs.Problems.{setup}
 use Rattle.control.specs.Systems.{Keeps, system}
 use Rattle.control.proofs.Sound.{setup-sound}
 use Rattle.sessions.proofs.Rooms.{room-for, verdict-few}
-use Rattle.sessions.proofs.session.Session.open.Needs as need
+use Rattle.sessions.proofs.session.Session.begin.Needs as need
 
 pub started-requires : need.started-requires
 started-requires g c κs =

@@ -2,7 +2,10 @@
 // The specification has one state and knows no event, so every step is legal. Two sites control every event and see
 // none: each of the three strings goes its own way, and all 64 × 64 × 64 = 262144 tuples are met for each event. At each of
 // them 5 movers try 4 events: 20 moves, 5242880 for one event and 20971520 for the four.
-use check::{Refusal, Verdict, cells_for, check};
+
+#![tactic(auto)]
+
+use checking::{Refusal, Verdict, cells_for, check};
 use control::Problem;
 use plants::{Counter, Product};
 use search::Graph;

@@ -1,4 +1,7 @@
 // Runs the decks on standard input one after the other, and prints the name and the replies of each.
+
+#![tactic(auto)]
+
 mod listing;
 
 ghost use Rattle.std.specs.Prelude.{◌≡◌, IfOk, vec_len};

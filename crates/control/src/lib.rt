@@ -1,4 +1,7 @@
 // Problems, pairs of states, and the audit of a recorded list of events.
+
+#![tactic(auto)]
+
 mod pair;
 mod problem;
 mod recorded;

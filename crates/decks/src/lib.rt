@@ -1,4 +1,7 @@
 // Decks: problems as text, read to their first fault.
+
+#![tactic(auto)]
+
 mod deck;
 mod reader;
 mod stage;

@@ -1,4 +1,7 @@
 // Frames: the lines of a text, what each says, and the faults of those that say nothing.
+
+#![tactic(auto)]
+
 mod digits;
 mod faults;
 mod frame;

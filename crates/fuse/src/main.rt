@@ -1,5 +1,8 @@
 // Runs the deck on standard input, and writes its replies to standard output. A deck with a fault has a reply too. Where
 // nothing can be read, run or written, one line on standard error says so, and the status is 1.
+
+#![tactic(auto)]
+
 mod failure;
 
 ghost use Rattle.std.specs.Prelude.{IfOk};

@@ -1,4 +1,7 @@
 // Whole lists of calls on a new session.
+
+#![tactic(auto)]
+
 ghost use Rattle.std.specs.Prelude.{◌≡◌, length, IfOk, vec_len};
 ghost use Rattle.control.specs.Problems.{setup};
 ghost use Rattle.control.specs.Systems.{system};

@@ -1,6 +1,9 @@
 // Lends the cells and the trace of a check itself. The worked example has 4 × 2 pairs, and two sites control its event 2, so a
 // check asks for 8 to the power 3 cells.
-use check::{Refusal, Verdict, check};
+
+#![tactic(auto)]
+
+use checking::{Refusal, Verdict, check};
 use control::Problem;
 use plants::Table;
 use std::alloc::{AllocError, Global};

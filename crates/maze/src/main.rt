@@ -8,6 +8,9 @@
 // 159999 * 4 + 399 * 2 + 399 * 3 moves tried.
 // With walls, 200 rows of 400 nodes and 200 gaps are left. The run goes 399 down, 100 rows of 399 to the right and 99 to the
 // left, which is 79800 moves: 80200 + 79800 nodes opened, and 80199 * 4 + 399 * 3 + 39900 * 2 + 39501 * 4 moves tried.
+
+#![tactic(auto)]
+
 mod grid;
 
 use grid::Grid;

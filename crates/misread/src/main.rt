@@ -1,4 +1,7 @@
 // Reads sound and damaged decks, and prints for each its name and the line that its fault becomes, or that it is sound.
+
+#![tactic(auto)]
+
 mod yields;
 
 use decks::{Deck, Unread};

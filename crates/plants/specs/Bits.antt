@@ -7,8 +7,11 @@ use Rattle.std.proofs.Common.{sym, ap, ◌∙◌, inl, inr, ⊎_elim, pow-suc, l
 use Rattle.std.proofs.Math.Nat.{zero-div, div-eq_of_lt, div_self, mul-mod_left}
 use Rattle.std.specs.Int.Bits.{bit_or}
 use Rattle.std.proofs.lemmas.Nat.{shl-shr, pow_below, mod_below, or_shr, or_mod}
-use Rattle.std.proofs.str.Laws.{order}
+use Rattle.std.proofs.lemmas.Bool.{cases_order}
 use Rattle.plants.specs.Masks.{bit, mask_of}
+
+order : (m n : ℕ) → (m < n) ⊎ (n ≤ m)
+order m n = ⊎_elim (λ same. inr (omega arith)) (λ apart. ⊎_elim (λ low. inl low) (λ high. inr (omega arith)) apart) (cases_order m n)
 
 pub bit_zero : (k : ℕ) → bit 0 k ≡ false
 unfolding bit

@@ -1,4 +1,7 @@
 // Plants: the interface, and three makes of it.
+
+#![tactic(auto)]
+
 mod counter;
 mod masks;
 mod plant;

@@ -5,7 +5,7 @@ use Rattle.std.proofs.Common.{◌≡◌, ℕ, zero, suc, ◌≤◌, Bool, true, 
 use Rattle.std.proofs.lemmas.Bool.{both_ways}
 use Rattle.control.specs.Strings.{Legal}
 use Rattle.control.specs.Systems.{System, Keeps}
-use Rattle.check.specs.declared.verdict.Verdict.TheVariants.{Clear}
+use Rattle.checking.specs.declared.verdict.Verdict.TheVariants.{Clear}
 use Rattle.sessions.specs.Calls.{Ran, allowed_in, happening, leaves, opened, refusal_number, with_event}
 use Rattle.sessions.specs.Histories.{accept, round_after}
 use Rattle.sessions.specs.Histories.History.{new}

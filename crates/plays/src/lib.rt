@@ -1,4 +1,7 @@
 // Playing an event: the missing ballots are cast, the round is settled if need be, and the event happens or is refused.
+
+#![tactic(auto)]
+
 ghost use Rattle.std.specs.Prelude.{◌≡◌};
 ghost use Rattle.control.specs.Problems.{setup};
 ghost use Rattle.control.specs.Systems.{system};

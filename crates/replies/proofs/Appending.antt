@@ -6,7 +6,7 @@ use Rattle.std.proofs.lemmas.List.{append_assoc, append-nil, drop-drop, drop-set
 use Rattle.std.proofs.lemmas.Bool.{cond-false, cond-true}
 use Rattle.control.specs.Setup.{Setup}
 use Rattle.theory.specs.declared.moves.Move.{Move}
-use Rattle.check.specs.Traces.{string_of}
+use Rattle.checking.specs.Traces.{string_of}
 use Rattle.frames.specs.Lines.{line_feed}
 use Rattle.frames.specs.Replies.{hex, written}
 use Rattle.replies.specs.Lines.{Appends, Reply, string, bytes_of, digits, strings_to, text_of}

@@ -7,10 +7,10 @@ use Rattle.control.specs.Problems.{filled, making, unmade_number}
 use Rattle.control.specs.Setup.{Setup}
 use Rattle.control.specs.Systems.{System, system}
 use Rattle.theory.specs.declared.moves.Move.{Move}
-use Rattle.check.specs.Answers.{Checked, refusal_number}
-use Rattle.check.specs.declared.verdict.Refusal.{Refusal as Unchecked}
-use Rattle.check.specs.declared.verdict.Verdict.{Verdict}
-use Rattle.check.specs.declared.verdict.Verdict.TheVariants.{Clear, Clash}
+use Rattle.checking.specs.Answers.{Checked, refusal_number}
+use Rattle.checking.specs.declared.verdict.Refusal.{Refusal as Unchecked}
+use Rattle.checking.specs.declared.verdict.Verdict.{Verdict}
+use Rattle.checking.specs.declared.verdict.Verdict.TheVariants.{Clear, Clash}
 use Rattle.sessions.specs.Calls.{opened}
 use Rattle.frames.specs.Replies.{fault_layer, fault_line, fault_number}
 use Rattle.decks.specs.Decks.{Reads, Tells}

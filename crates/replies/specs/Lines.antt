@@ -2,7 +2,7 @@
 use Rattle.std.specs.Prelude.{◌≡◌, ℕ, zero, suc, ◌+◌, ◌/◌, ◌%◌, cond, List, [], ◌∷◌, ◌++◌, length, take, drop}
 use Rattle.control.specs.Setup.{Setup}
 use Rattle.theory.specs.declared.moves.Move.{Move}
-use Rattle.check.specs.Traces.{string_of}
+use Rattle.checking.specs.Traces.{string_of}
 use Rattle.frames.specs.Replies.{hex, written}
 
 -- A reply: a fault, with its layer, line and number; clear; clash, with the event and the number of moves; the string of a

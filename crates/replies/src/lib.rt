@@ -1,4 +1,7 @@
 // Replies: what a deck is answered by, and the lines that the answers are written as.
+
+#![tactic(auto)]
+
 mod lines;
 mod reply;
 mod strings;

@@ -1,14 +1,14 @@
 // The replies to a clash: the event, and the strings of the run that shows it.
 ghost use Rattle.std.specs.Prelude.{◌≡◌, ◌+◌, ◌*◌, ◌<◌, ◌≤◌, ◌&&◌, length, nat_le};
 ghost use Rattle.control.specs.Problems.{setup};
-ghost use Rattle.check.specs.Traces.{string_of};
+ghost use Rattle.checking.specs.Traces.{string_of};
 ghost use Rattle.frames.specs.Replies.{written};
 ghost use Rattle.replies.specs.Lines.{Appends, bytes_of, clash_replies, digits, string, strings_to, text_of};
 ghost use Rattle.replies.specs.Writing.{Wrote};
 
 use crate::lines::{NoRoom, has_room, put_byte, put_bytes, put_feed};
 use crate::reply::Reply;
-use check::takes_part;
+use checking::takes_part;
 use control::Problem;
 use plants::Event;
 use theory::Move;

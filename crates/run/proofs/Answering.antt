@@ -5,9 +5,9 @@ use Rattle.std.proofs.Common.{◌≡◌, ℕ, ◌≤◌, cond, List, [], ◌∷�
 use Rattle.control.specs.Setup.{Setup}
 use Rattle.control.specs.Systems.{System, Keeps, system}
 use Rattle.theory.specs.declared.moves.Move.{Move}
-use Rattle.check.specs.declared.verdict.Refusal.{Refusal as Unchecked}
-use Rattle.check.specs.declared.verdict.Verdict.{Verdict}
-use Rattle.check.specs.declared.verdict.Verdict.TheVariants.{Clear, Clash}
+use Rattle.checking.specs.declared.verdict.Refusal.{Refusal as Unchecked}
+use Rattle.checking.specs.declared.verdict.Verdict.{Verdict}
+use Rattle.checking.specs.declared.verdict.Verdict.TheVariants.{Clear, Clash}
 use Rattle.sessions.specs.Calls.{is_clear, opened}
 use Rattle.sessions.specs.Status.{Status}
 use Rattle.decks.specs.Decks.{Reads, Tells}

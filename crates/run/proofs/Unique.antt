@@ -7,10 +7,10 @@ use Rattle.control.specs.Problems.{unmade_number}
 use Rattle.control.specs.Systems.{System}
 use Rattle.control.specs.declared.problem.Unmade.{Unmade}
 use Rattle.theory.specs.declared.moves.Move.{Move}
-use Rattle.check.specs.Answers.{Checked, Clashes}
-use Rattle.check.specs.declared.verdict.Refusal.{Refusal as Unchecked}
-use Rattle.check.specs.declared.verdict.Verdict.{Verdict}
-use Rattle.check.specs.declared.verdict.Verdict.TheVariants.{Clear, Clash}
+use Rattle.checking.specs.Answers.{Checked, Clashes}
+use Rattle.checking.specs.declared.verdict.Refusal.{Refusal as Unchecked}
+use Rattle.checking.specs.declared.verdict.Verdict.{Verdict}
+use Rattle.checking.specs.declared.verdict.Verdict.TheVariants.{Clear, Clash}
 use Rattle.frames.specs.Replies.{fault_layer, fault_line, fault_number}
 use Rattle.decks.specs.Decks.{Tells}
 use Rattle.decks.specs.Said.{Said}

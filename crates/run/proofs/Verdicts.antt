@@ -6,12 +6,12 @@ use Rattle.std.proofs.lemmas.Bool.{cases_order}
 use Rattle.std.proofs.lemmas.Bool.Decides.{nat_tests}
 use Rattle.control.specs.Systems.{System}
 use Rattle.theory.specs.declared.moves.Move.{Move}
-use Rattle.check.specs.Answers.{Checked, Clashes, Clears, Exceeds, Lowest}
-use Rattle.check.specs.Sizes.{Fits, all_pairs, needed_cells}
-use Rattle.check.specs.declared.verdict.Refusal.{Refusal}
-use Rattle.check.specs.declared.verdict.Refusal.TheVariants.{VoidPlant, VoidSpec, TooManyPairs, TooFewCells, ShortTrace}
-use Rattle.check.specs.declared.verdict.Verdict.{Verdict}
-use Rattle.check.specs.declared.verdict.Verdict.TheVariants.{Clear, Clash}
+use Rattle.checking.specs.Answers.{Checked, Clashes, Clears, Exceeds, Lowest}
+use Rattle.checking.specs.Sizes.{Fits, all_pairs, needed_cells}
+use Rattle.checking.specs.declared.verdict.Refusal.{Refusal}
+use Rattle.checking.specs.declared.verdict.Refusal.TheVariants.{VoidPlant, VoidSpec, TooManyPairs, TooFewCells, ShortTrace}
+use Rattle.checking.specs.declared.verdict.Verdict.{Verdict}
+use Rattle.checking.specs.declared.verdict.Verdict.TheVariants.{Clear, Clash}
 
 -- the refusal that the sizes ask for, with m cells
 abbrev refusal : System → ℕ → Option Refusal

@@ -3,9 +3,9 @@ use Rattle.std.specs.Prelude.{◌≡◌, ℕ, ◌<◌, ◌≤◌, List, [], ◌�
 use Rattle.control.specs.Problems.{setup, unmade_number}
 use Rattle.control.specs.Systems.{System}
 use Rattle.theory.specs.declared.moves.Move.{Move}
-use Rattle.check.specs.Answers.{Checked, refusal_number}
-use Rattle.check.specs.declared.verdict.Refusal.{Refusal as Unchecked}
-use Rattle.check.specs.declared.verdict.Verdict.{Verdict}
+use Rattle.checking.specs.Answers.{Checked, refusal_number}
+use Rattle.checking.specs.declared.verdict.Refusal.{Refusal as Unchecked}
+use Rattle.checking.specs.declared.verdict.Verdict.{Verdict}
 use Rattle.frames.specs.Replies.{fault_layer, fault_line, fault_number}
 use Rattle.decks.specs.Decks.{most_bytes}
 use Rattle.decks.specs.Said.{Said}

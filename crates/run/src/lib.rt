@@ -1,4 +1,7 @@
 // Running a deck: it is read, checked and played, and the replies are written to a lent output.
+
+#![tactic(auto)]
+
 mod running;
 mod showing;
 mod stop;

@@ -11,7 +11,7 @@ ghost use Rattle.replies.specs.Plays.{play_replies};
 ghost use Rattle.replies.specs.Writing.{reply as said};
 ghost use Rattle.run.specs.Runs.{Asked, Concluded, least_output};
 
-use check::{Refusal as Unchecked, Verdict};
+use checking::{Refusal as Unchecked, Verdict};
 use control::Problem;
 use plants::{Event, Plant};
 use plays::play;

@@ -6,7 +6,7 @@ ghost use Rattle.run.specs.Stops.{stop_of};
 ghost use Rattle.run.specs.declared.stop.Fault.TheVariants.{Check, Make};
 ghost use Rattle.run.specs.declared.stop.Stop.TheVariants.{Faulty};
 
-use check::Refusal as Unchecked;
+use checking::Refusal as Unchecked;
 use control::Unmade;
 use decks::Unread;
 use frames::Fault as TextFault;

@@ -10,9 +10,9 @@ use Rattle.plants.proofs.Ranges.{all_at}
 use Rattle.control.specs.Strings.{Follows, Possible, Legal, sight}
 use Rattle.control.specs.Systems.{System, Keeps, first_pair}
 use Rattle.control.proofs.Strings.{follows_once}
-use Rattle.check.specs.declared.verdict.Verdict.{Verdict}
-use Rattle.check.specs.declared.verdict.Verdict.TheVariants.{Clear, Clash}
-use Rattle.check.specs.declared.verdict.Refusal.{Refusal as Unchecked}
+use Rattle.checking.specs.declared.verdict.Verdict.{Verdict}
+use Rattle.checking.specs.declared.verdict.Verdict.TheVariants.{Clear, Clash}
+use Rattle.checking.specs.declared.verdict.Refusal.{Refusal as Unchecked}
 use Rattle.theory.specs.Counterexamples.{Counterexample}
 use Rattle.theory.specs.Estimates.{estimate, told, vote, votes}
 use Rattle.theory.specs.Rules.{fusion, Generates, Exact}

@@ -11,11 +11,11 @@ use Rattle.theory.specs.Estimates.{estimate, votes}
 use Rattle.theory.specs.Rules.{Rules, Generates, Exact, Kept as HasRules, fusion}
 use Rattle.theory.specs.Rules.Generates.{added}
 use Rattle.theory.proofs.Votes.{votes_generate_legal_lem}
-use Rattle.check.specs.Answers.{Checked}
-use Rattle.check.specs.declared.verdict.Verdict.{Verdict}
-use Rattle.check.specs.declared.verdict.Verdict.TheVariants.{Clear, Clash}
-use Rattle.check.specs.declared.verdict.Refusal.{Refusal as Unchecked}
-use Rattle.check.specs.declared.verdict.Refusal.TheVariants.{VoidPlant, VoidSpec, TooManyPairs, TooFewCells, ShortTrace}
+use Rattle.checking.specs.Answers.{Checked}
+use Rattle.checking.specs.declared.verdict.Verdict.{Verdict}
+use Rattle.checking.specs.declared.verdict.Verdict.TheVariants.{Clear, Clash}
+use Rattle.checking.specs.declared.verdict.Refusal.{Refusal as Unchecked}
+use Rattle.checking.specs.declared.verdict.Refusal.TheVariants.{VoidPlant, VoidSpec, TooManyPairs, TooFewCells, ShortTrace}
 use Rattle.sites.specs.Sites.{vote_mask}
 use Rattle.sessions.specs.Calls.{site, balloted, settling, happening, happen_gates, settled_in, Ran, Does}
 use Rattle.sessions.specs.Histories.{Exchange, History, accepted, settled, shown, Sized, ClearExactly, AcceptsExactly, AllowsExactly, EqualVotes, Promises}

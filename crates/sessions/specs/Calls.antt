@@ -11,10 +11,10 @@ use Rattle.theory.specs.Rules.{fusion}
 use Rattle.theory.specs.Estimates.{first_estimate, told}
 use Rattle.sites.specs.Sites.{vote_mask}
 use Rattle.theory.specs.declared.moves.Move.{Move}
-use Rattle.check.specs.Answers.{Checked}
-use Rattle.check.specs.declared.verdict.Verdict.{Verdict}
-use Rattle.check.specs.declared.verdict.Verdict.TheVariants.{Clear, Clash}
-use Rattle.check.specs.declared.verdict.Refusal.{Refusal as Unchecked}
+use Rattle.checking.specs.Answers.{Checked}
+use Rattle.checking.specs.declared.verdict.Verdict.{Verdict}
+use Rattle.checking.specs.declared.verdict.Verdict.TheVariants.{Clear, Clash}
+use Rattle.checking.specs.declared.verdict.Refusal.{Refusal as Unchecked}
 use Rattle.sessions.specs.Status.{Status, no_site}
 use Rattle.sessions.specs.declared.call.Call.{Call}
 use Rattle.sessions.specs.declared.call.Call.TheVariants.{Open, Ballot, Settle, Happen}

@@ -4,10 +4,10 @@ use Rattle.plants.specs.Masks.{bit}
 use Rattle.control.specs.Strings.{Legal, Possible, sight}
 use Rattle.control.specs.Systems.{System}
 use Rattle.theory.specs.Rules.{Kept}
-use Rattle.check.specs.declared.verdict.Verdict.{Verdict}
-use Rattle.check.specs.declared.verdict.Verdict.TheVariants.{Clear, Clash}
-use Rattle.check.specs.declared.verdict.Refusal.{Refusal as Unchecked}
-use Rattle.check.specs.declared.verdict.Refusal.TheVariants.{VoidPlant, VoidSpec, TooManyPairs, TooFewCells, ShortTrace}
+use Rattle.checking.specs.declared.verdict.Verdict.{Verdict}
+use Rattle.checking.specs.declared.verdict.Verdict.TheVariants.{Clear, Clash}
+use Rattle.checking.specs.declared.verdict.Refusal.{Refusal as Unchecked}
+use Rattle.checking.specs.declared.verdict.Refusal.TheVariants.{VoidPlant, VoidSpec, TooManyPairs, TooFewCells, ShortTrace}
 use Rattle.sessions.specs.Calls.{Does}
 use Rattle.sessions.specs.Status.{Status, closed}
 use Rattle.sessions.specs.declared.call.Call.{Call}

@@ -2,7 +2,7 @@
 ghost use Rattle.std.specs.Prelude.{◌≡◌};
 ghost use Rattle.sessions.specs.Calls.{refusal_number};
 
-use check::{Refusal as Unchecked, Verdict};
+use checking::{Refusal as Unchecked, Verdict};
 use plants::{Event, Mask, State};
 
 // Why a session refuses a call.

@@ -1,4 +1,7 @@
 // The boxes at work: sessions, their calls, and what is promised over whole histories.
+
+#![tactic(auto)]
+
 mod call;
 mod session;
 

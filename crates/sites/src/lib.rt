@@ -1,4 +1,7 @@
 // A site's estimates and votes, for any two plants.
+
+#![tactic(auto)]
+
 mod estimates;
 mod pairs;
 mod reach;

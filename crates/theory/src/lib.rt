@@ -1,4 +1,7 @@
 // The theorems of the subject, over what problems and plants mean, with no program in sight.
+
+#![tactic(auto)]
+
 mod moves;
 mod theorems;
 

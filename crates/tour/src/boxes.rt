@@ -1,7 +1,7 @@
 // The boxes at work, on the arrangement that the check clears.
 use crate::decision::{CELLS, blank_trace};
 use crate::office;
-use check::{Refusal as Unchecked, Verdict};
+use checking::{Refusal as Unchecked, Verdict};
 use control::Problem;
 use histories::replay;
 use plants::{Event, Mask, State, Table, contains};

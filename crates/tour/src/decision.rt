@@ -1,6 +1,6 @@
 // What the check says of the two arrangements.
 use crate::office;
-use check::{Verdict, check, component};
+use checking::{Verdict, check, component};
 use control::Problem;
 use plants::{Event, Mask};
 use std::alloc::{AllocError, Global};

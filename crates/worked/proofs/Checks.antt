@@ -7,12 +7,12 @@ use Rattle.theory.specs.Counterexamples.{Counterexample, Refutes, moves}
 use Rattle.theory.specs.Example.{four_states, two_sites, worked}
 use Rattle.theory.specs.declared.moves.Move.{Move}
 use Rattle.theory.proofs.Variants.{disjunctive}
-use Rattle.check.specs.Answers.{Checked, Clashes, Exceeds}
-use Rattle.check.specs.Sizes.{all_pairs, controllers, greatest, most_controllers, needed_cells}
-use Rattle.check.specs.declared.verdict.Refusal.{Refusal as Unchecked}
-use Rattle.check.specs.declared.verdict.Refusal.TheVariants.{VoidPlant, VoidSpec, TooManyPairs, TooFewCells, ShortTrace}
-use Rattle.check.specs.declared.verdict.Verdict.{Verdict}
-use Rattle.check.specs.declared.verdict.Verdict.TheVariants.{Clear, Clash}
+use Rattle.checking.specs.Answers.{Checked, Clashes, Exceeds}
+use Rattle.checking.specs.Sizes.{all_pairs, controllers, greatest, most_controllers, needed_cells}
+use Rattle.checking.specs.declared.verdict.Refusal.{Refusal as Unchecked}
+use Rattle.checking.specs.declared.verdict.Refusal.TheVariants.{VoidPlant, VoidSpec, TooManyPairs, TooFewCells, ShortTrace}
+use Rattle.checking.specs.declared.verdict.Verdict.{Verdict}
+use Rattle.checking.specs.declared.verdict.Verdict.TheVariants.{Clear, Clash}
 use Rattle.worked.specs.Cases.{ChecksAnswer, early, uncontrolled}
 use Rattle.worked.proofs.Forced.{Clashing, early_clash, early_clear, uncontrolled_clash, worked_clash}
 

@@ -11,10 +11,10 @@ use Rattle.theory.specs.Estimates.{columns, pairs, number, pair_of, after, grown
 use Rattle.theory.specs.Example.{four_states, two_sites, worked}
 use Rattle.theory.specs.Rules.{fusion}
 use Rattle.theory.specs.declared.moves.Move.{Move}
-use Rattle.check.specs.Answers.{Checked, Clashes}
-use Rattle.check.specs.declared.verdict.Refusal.{Refusal as Unchecked}
-use Rattle.check.specs.declared.verdict.Verdict.{Verdict}
-use Rattle.check.specs.declared.verdict.Verdict.TheVariants.{Clear, Clash}
+use Rattle.checking.specs.Answers.{Checked, Clashes}
+use Rattle.checking.specs.declared.verdict.Refusal.{Refusal as Unchecked}
+use Rattle.checking.specs.declared.verdict.Verdict.{Verdict}
+use Rattle.checking.specs.declared.verdict.Verdict.TheVariants.{Clear, Clash}
 use Rattle.sessions.specs.Calls.{opened}
 use Rattle.frames.specs.Replies.{hex}
 use Rattle.decks.specs.Decks.{Tells}

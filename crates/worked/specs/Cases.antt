@@ -6,12 +6,12 @@ use Rattle.plants.specs.Products.{product}
 use Rattle.control.specs.Systems.{System}
 use Rattle.theory.specs.Example.{four_states, listed, two_sites, worked}
 use Rattle.theory.specs.declared.moves.Move.{Move}
-use Rattle.check.specs.Answers.{Checked}
-use Rattle.check.specs.Sizes.{all_pairs}
-use Rattle.check.specs.declared.verdict.Refusal.{Refusal as Unchecked}
-use Rattle.check.specs.declared.verdict.Refusal.TheVariants.{TooFewCells, ShortTrace}
-use Rattle.check.specs.declared.verdict.Verdict.{Verdict}
-use Rattle.check.specs.declared.verdict.Verdict.TheVariants.{Clear, Clash}
+use Rattle.checking.specs.Answers.{Checked}
+use Rattle.checking.specs.Sizes.{all_pairs}
+use Rattle.checking.specs.declared.verdict.Refusal.{Refusal as Unchecked}
+use Rattle.checking.specs.declared.verdict.Refusal.TheVariants.{TooFewCells, ShortTrace}
+use Rattle.checking.specs.declared.verdict.Verdict.{Verdict}
+use Rattle.checking.specs.declared.verdict.Verdict.TheVariants.{Clear, Clash}
 use Rattle.frames.specs.Lines.{line_feed}
 use Rattle.decks.specs.Decks.{Tells}
 use Rattle.decks.specs.Said.{Said}

@@ -1,4 +1,7 @@
 // The worked cases, as one theorem.
+
+#![tactic(auto)]
+
 ghost use Rattle.worked.specs.Cases.{WorkedCases};
 
 // What check answers to the worked examples, which replies their decks get, and what products count: each is a sentence over

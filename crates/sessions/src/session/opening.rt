@@ -3,7 +3,7 @@ ghost use Rattle.std.specs.Prelude.{◌≡◌, ◌*◌, ◌≤◌, if◌then◌e
 ghost use Rattle.control.specs.Problems.{setup};
 ghost use Rattle.control.specs.Systems.{system};
 ghost use Rattle.theory.specs.Estimates.{pairs};
-ghost use Rattle.check.specs.Answers.{Checked};
+ghost use Rattle.checking.specs.Answers.{Checked};
 ghost use Rattle.sites.specs.Sites.{most_pairs};
 ghost use Rattle.sessions.specs.Calls.{Does, first_site, first_sites, is_clear, opened};
 ghost use Rattle.sessions.specs.Histories.{ClearExactly};
@@ -11,7 +11,7 @@ ghost use Rattle.sessions.specs.Status.{status};
 
 use crate::call::{Call, Reply};
 use crate::session::{Round, Session, Site};
-use check::{Refusal as Unchecked, Verdict, check};
+use checking::{Refusal as Unchecked, Verdict, check};
 use control::Problem;
 use plants::Plant;
 use sites::first_estimate;

@@ -1,6 +1,6 @@
 use Rattle.std.proofs.Common.{◌≡◌, ◌+◌, sym, ap, ◌∙◌, arith}
 use Rattle.control.specs.Problems.{setup}
-use Rattle.check.specs.Traces.{string_of}
+use Rattle.checking.specs.Traces.{string_of}
 use Rattle.frames.specs.Replies.{written}
 use Rattle.replies.specs.Lines.{bytes_of, string, strings_to, text_of}
 use Rattle.replies.proofs.Appending.{nothing, onward, renamed, retold, strings_joins, strings_stay}

@@ -2,7 +2,7 @@ use Rattle.std.proofs.Common.{◌+◌, [], ◌∷◌, get_or, take, sym, ap, ◌
 use Rattle.control.specs.Problems.{setup}
 use Rattle.theory.specs.Tuples.{spelled}
 use Rattle.theory.specs.declared.moves.Move.{Move}
-use Rattle.check.proofs.Spelling.{spelled_joins, spelled_stays, string_is}
+use Rattle.checking.proofs.Spelling.{spelled_joins, spelled_stays, string_is}
 use Rattle.replies.specs.Lines.{digits}
 use Rattle.replies.proofs.Appending.{digits_append, nothing, onward, renamed, retold}
 use Rattle.replies.proofs.strings.put_events.Goals as goal

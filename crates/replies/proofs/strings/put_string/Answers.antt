@@ -1,6 +1,6 @@
 use Rattle.std.proofs.Common.{[], ◌∷◌, ◌++◌, sym, ap, ◌∙◌, arith}
 use Rattle.control.specs.Problems.{setup}
-use Rattle.check.specs.Traces.{string_of}
+use Rattle.checking.specs.Traces.{string_of}
 use Rattle.replies.specs.Lines.{digits}
 use Rattle.replies.proofs.Appending.{digits_append, digits_line, onward, retold}
 use Rattle.replies.proofs.strings.put_string.Goals as goal

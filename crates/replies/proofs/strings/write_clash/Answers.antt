@@ -2,7 +2,7 @@ use Rattle.std.proofs.Common.{◌≡◌, ◌+◌, true, leb, length, sym}
 use Rattle.std.proofs.lemmas.List.{append_assoc}
 use Rattle.std.proofs.lemmas.Bool.{and_from, le-leb}
 use Rattle.control.specs.Problems.{setup}
-use Rattle.check.specs.Traces.{string_of}
+use Rattle.checking.specs.Traces.{string_of}
 use Rattle.frames.specs.Replies.{written}
 use Rattle.replies.specs.Lines.{bytes_of, clash, string, strings_to, text_of}
 use Rattle.replies.proofs.Appending.{onward, retold}

@@ -2,7 +2,7 @@ use Rattle.std.proofs.Common.{◌≡◌, Ok, subst, arith}
 use Rattle.control.specs.Problems.{setup}
 use Rattle.control.specs.Systems.{Keeps, system}
 use Rattle.control.proofs.Sound.{setup_sound}
-use Rattle.check.specs.declared.verdict.Verdict.TheVariants.{Clear}
+use Rattle.checking.specs.declared.verdict.Verdict.TheVariants.{Clear}
 use Rattle.replies.specs.Decks.{most_moves}
 use Rattle.run.specs.Runs.{Asked}
 use Rattle.run.proofs.Answering.{clash_shown, clear_shown}

@@ -3,7 +3,7 @@ use borrow.Rule.Slice.PartMut.{post_of}
 use Rattle.replies.specs.Decks.{most_moves}
 use Rattle.control.specs.Problems.{setup}
 use Rattle.control.specs.Systems.{system}
-use Rattle.check.specs.Answers.{Checked}
+use Rattle.checking.specs.Answers.{Checked}
 use Rattle.run.proofs.Fronts.{front, lent, past}
 use Rattle.run.proofs.showing.open.Goals as goal
 

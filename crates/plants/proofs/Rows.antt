@@ -1,13 +1,13 @@
 -- What a table's row says: a row of empty places means no step, and a byte written into one place adds one step and
 -- changes no other. Places are told apart by their row and column, since a column is below the width.
 -- Assumes nothing.
-use Rattle.std.proofs.Common.{◌≡◌, ℕ, ◌+◌, ◌*◌, ◌<◌, ◌≤◌, Bool, true, false, cond, ◌&&◌, eqb, ltb, leb, ◌≢◌, List, length, get_or, set, replicate, Some, None, Option, sym, refl, ap, ◌∙◌, arith, length-set, get_or-set_other, get_or-set_same, eq-eqb, leb-true}
+use Rattle.std.proofs.Common.{◌≡◌, ℕ, ◌+◌, ◌*◌, ◌<◌, ◌≤◌, Bool, true, false, cond, ◌&&◌, eqb, ltb, leb, List, length, get_or, set, replicate, Some, None, Option, refl, ap, arith, length-set, get_or-set_other, get_or-set_same, eq-eqb, leb-true}
 use mathlib.Core.Path.{fun_ext}
 use lib.ListN.{length-replicate, get_or-replicate}
 use Rattle.std.proofs.lemmas.Bool.Decides.{nat_tests}
 use Rattle.plants.specs.Masks.{width, bit}
 use Rattle.plants.specs.Machine.{Machine, most_states, void}
-use Rattle.plants.specs.Tables.{fits, below, lookup, table, blank, with_step}
+use Rattle.plants.specs.Tables.{fits, lookup, table, blank, with_step}
 
 -- a place of the row, by its state and event
 place_within : (q e count : ℕ) → q < count → e < width → width * q + e < width * count

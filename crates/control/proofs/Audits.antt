@@ -1,12 +1,12 @@
 -- One turn of an audit. The pair in hand is the one to which the list leads so far; a legal step leads the list one event
 -- further, and any other stops it: by determinism no other way through the plant or the pairs is left.
 -- Assumes nothing.
-use Rattle.std.proofs.Common.{◌≡◌, ℕ, suc, ◌+◌, ◌<◌, ◌≤◌, List, [], ◌∷◌, ◌++◌, reverse, length, get_or, take, sym, ap, ◌∙◌, subst, add-one}
+use Rattle.std.proofs.Common.{◌≡◌, ℕ, suc, ◌<◌, List, [], ◌∷◌, reverse, length, get_or, take, sym, ap, ◌∙◌, subst, add-one}
 use mathlib.Core.Path.{subst⁻¹}
 use mathlib.Core.List.{reverse-append}
 use Rattle.std.proofs.lemmas.List.{take_more}
 use Rattle.control.specs.Audits.{front, Halts}
-use Rattle.control.specs.Strings.{Follows, Possible, Leads, Legal as IsLegal, BadAfter}
+use Rattle.control.specs.Strings.{Possible, Leads, Legal as IsLegal, BadAfter}
 use Rattle.control.specs.Systems.{System, pair_step}
 use Rattle.control.specs.declared.recorded.Stop.TheVariants.{NoStep as NoStepAt, Bad as BadAt}
 use Rattle.control.specs.declared.pair.Pair.{Pair}

@@ -6,8 +6,8 @@ use mathlib.Core.Path.{subst⁻¹}
 use Rattle.std.proofs.lemmas.Bool.Decides.{nat_tests}
 use Rattle.plants.specs.Masks.{bit}
 use Rattle.plants.specs.Bits.{bit_zero}
-use Rattle.control.specs.Ranges.{Rows, most_sites}
-use Rattle.control.specs.Problems.{kept, kept_rows, masks_below, rows_below, row_bit}
+use Rattle.control.specs.Ranges.{Rows}
+use Rattle.control.specs.Problems.{kept_rows, masks_below, rows_below, row_bit}
 
 rows_at : (events a b c d k : ℕ) → rows_below events (a ∷ b ∷ c ∷ d ∷ []) ≡ true → get_or (a ∷ b ∷ c ∷ d ∷ []) k 0 < 2 ^ events
 rows_at events a b c d zero h = grind (arith, nat_tests)

@@ -2,14 +2,14 @@
 -- below 2 ^ E has no bit at or above E, an empty row none at all, and a mode bit stands in the union of the control rows, so
 -- in one of them.
 -- Assumes nothing.
-use Rattle.std.proofs.Common.{◌≡◌, ℕ, zero, suc, ◌-◌, ◌^◌, ◌<◌, ◌≤◌, Bool, true, false, ◌&&◌, ◌||◌, eqb, leb, ◌⊎◌, List, get_or, sym, refl, ap, ◌∙◌, inl, inr, ⊎_elim, arith, eqb-true, le-leb, leb-true}
+use Rattle.std.proofs.Common.{◌≡◌, ℕ, zero, suc, ◌-◌, ◌^◌, ◌<◌, ◌≤◌, Bool, true, false, ◌&&◌, ◌||◌, leb, ◌⊎◌, List, get_or, sym, refl, ap, ◌∙◌, inl, inr, ⊎_elim, arith, eqb-true, le-leb, leb-true}
 use lib.Bits.{bit_or}
 use borrow.Author.Tests.{both_ways}
 use Rattle.std.proofs.str.Laws.{order}
 use Rattle.plants.specs.Masks.{bit}
 use Rattle.plants.specs.Bits.{bit_high, bit-or, bit_zero}
 use Rattle.control.specs.Ranges.{Rows, in_rows, most_sites, union, within}
-use Rattle.control.specs.Setup.{Setup, Sound}
+use Rattle.control.specs.Setup.{Sound}
 use Rattle.control.specs.Problems.{row_bit, setup}
 use Rattle.control.specs.declared.problem.Problem.{Problem}
 

@@ -1,5 +1,5 @@
 -- A plant under a specification, with a problem's sites around it, and the steps of its pairs. Assumes nothing.
-use Rattle.std.specs.Prelude.{ℕ, Bool, true, false, cond, Some, None, Option, nat_lt}
+use Rattle.std.specs.Prelude.{ℕ, cond, Some, None, Option, nat_lt}
 use Rattle.plants.specs.Masks.{bit}
 use Rattle.plants.specs.Machine.{Machine, Lawful}
 use Rattle.control.specs.Setup.{Setup, Sound}

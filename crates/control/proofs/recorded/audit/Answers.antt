@@ -5,7 +5,7 @@ use Rattle.control.proofs.Strings.{opened_step}
 use Rattle.control.proofs.recorded.audit.Goals as goal
 
 pub loop-at-init : goal.loop-at-init
-loop-at-init g c = (omega arith, c.first_pair.ensures (setup c.args.problem.now))
+loop-at-init g c = (omega arith, c.first-pair.ensures (setup c.args.problem.now))
 
 pub returns-in-NoStep : goal.returns-in-NoStep
 returns-in-NoStep g c =

@@ -9,8 +9,8 @@ use Rattle.control.proofs.problem.Problem.controllers.Goals.{then-controls, else
 pub loop-site-init : goal.loop-site-init
 loop-site-init c = sym (mask_none _)
 
-pub overflow-add-mask : goal.overflow-add-mask
-overflow-add-mask c =
+pub overflow_add-mask : goal.overflow_add-mask
+overflow_add-mask c =
     let site = c.loop-site.site in
     let low = mask_below site (λ i. (setup c.args.self.now).controls i c.args.event) in
     let few : 2 ^ site ≤ 2 ^ 4 = pow_mono {j = 4} (omega arith) in

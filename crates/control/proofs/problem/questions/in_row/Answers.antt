@@ -1,4 +1,4 @@
-use Rattle.std.proofs.Common.{◌≡◌, ◌-◌, false, ◌&&◌, get_or, sym, ap, ⊎_elim, arith}
+use Rattle.std.proofs.Common.{◌-◌, ◌&&◌, get_or, sym, ap, ⊎_elim, arith}
 use borrow.Author.Tests.{lt-leb}
 use Rattle.std.proofs.lemmas.List.{get_or_past}
 use Rattle.plants.specs.Masks.{bit}

@@ -23,19 +23,19 @@ loop-n-preserved g c =
     elim c.if-holds.branch [
       | then-holds+in-NoStep v ↦
           let member = sym c.holds.ensures ∙ v.if-holds.true in
-          let is = sym v.step-at.ensures ∙ v.in-NoStep.is in
-          (v.legal_is ∙ legal ∙ sym (some_at w m e is_legal n NoStep member is), v.bad_is ∙ bad ∙ sym (some_at w m e is_bad n NoStep member is))
+          let is = sym v.step_at.ensures ∙ v.in-NoStep.is in
+          (v.legal-is ∙ legal ∙ sym (some_at w m e is_legal n NoStep member is), v.bad-is ∙ bad ∙ sym (some_at w m e is_bad n NoStep member is))
       | then-holds+in-Bad v ↦
           let member = sym c.holds.ensures ∙ v.if-holds.true in
-          let is = sym v.step-at.ensures ∙ v.in-Bad.is in
-          (v.legal_is ∙ legal ∙ sym (some_at w m e is_legal n Bad member is), v.bad_is ∙ sym (some_at w m e is_bad n Bad member is))
+          let is = sym v.step_at.ensures ∙ v.in-Bad.is in
+          (v.legal-is ∙ legal ∙ sym (some_at w m e is_legal n Bad member is), v.bad-is ∙ sym (some_at w m e is_bad n Bad member is))
       | then-holds+in-Legal v ↦
           let member = sym c.holds.ensures ∙ v.if-holds.true in
-          let is = sym v.step-at.ensures ∙ v.in-Legal.is in
-          (v.legal_is ∙ sym (some_at w m e is_legal n _ member is), v.bad_is ∙ bad ∙ sym (some_at w m e is_bad n _ member is))
+          let is = sym v.step_at.ensures ∙ v.in-Legal.is in
+          (v.legal-is ∙ sym (some_at w m e is_legal n _ member is), v.bad-is ∙ bad ∙ sym (some_at w m e is_bad n _ member is))
       | else-holds v ↦
           let out = sym c.holds.ensures ∙ v.if-holds.false in
-          (v.legal_is ∙ legal ∙ sym (some_past w m e is_legal n out), v.bad_is ∙ bad ∙ sym (some_past w m e is_bad n out))
+          (v.legal-is ∙ legal ∙ sym (some_past w m e is_legal n out), v.bad-is ∙ bad ∙ sym (some_past w m e is_bad n out))
     ]
 
 pub returns : goal.returns

@@ -6,5 +6,5 @@ use Rattle.sites.proofs.votes.vote.Goals as goal
 pub votes-requires : goal.votes-requires
 votes-requires g c =
     let w = system (setup c.args.problem.now) (g.P.Plant.meaning c.args.plant.now) (g.S.Plant.meaning c.args.spec.now) in
-    let (all, room) = counted w c.in-ok-count.count (c.in-ok-count.ensures w.setup) in
+    let (all, room) = counted w c.in_ok-count.count (c.in_ok-count.ensures w.setup) in
     record { all = all; room = room }

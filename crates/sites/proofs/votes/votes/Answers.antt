@@ -9,16 +9,16 @@ use Rattle.theory.specs.Estimates.{vote}
 use Rattle.sites.proofs.Numbers.{keeps}
 use Rattle.sites.proofs.Exact.{by_sight}
 use Rattle.sites.proofs.votes.votes.Goals as goal
-use Rattle.sites.proofs.votes.votes.Goals.{then-says-yes, else-says-yes}
+use Rattle.sites.proofs.votes.votes.Goals.{then-says_yes, else-says_yes}
 
 pub loop-event-init : goal.loop-event-init
 loop-event-init g c = sym (mask_none _)
 
-pub overflow-shl-mask : goal.overflow-shl-mask
-overflow-shl-mask g c = omega (arith, c.args.problem.now.counts.1)
+pub overflow_shl-mask : goal.overflow_shl-mask
+overflow_shl-mask g c = omega (arith, c.args.problem.now.counts.1)
 
-pub overflow-add-mask : goal.overflow-add-mask
-overflow-add-mask g c =
+pub overflow_add-mask : goal.overflow_add-mask
+overflow_add-mask g c =
     let w = system (setup c.args.problem.now) (g.P.Plant.meaning c.args.plant.now) (g.S.Plant.meaning c.args.spec.now) in
     let event = c.loop-event.event in
     let few : event < 32 = omega (arith, c.args.problem.now.counts.1) in
@@ -33,9 +33,9 @@ loop-event-preserved g c =
     let few : event < 32 = omega (arith, c.args.problem.now.counts.1) in
     let shifted = one_shl event 32 few in
     let f = vote w c.args.site c.args.estimate in
-    elim c.if-says-yes.branch [
-      | then-says-yes v ↦ omega (arith, mask_more event f true (sym c.says-yes.ensures ∙ v.if-says-yes.true), v.mask-is, c.loop-event.invariant)
-      | else-says-yes v ↦ omega (arith, mask_more event f false (sym c.says-yes.ensures ∙ v.if-says-yes.false), v.mask-is, c.loop-event.invariant)
+    elim c.if-says_yes.branch [
+      | then-says_yes v ↦ omega (arith, mask_more event f true (sym c.says_yes.ensures ∙ v.if-says_yes.true), v.mask-is, c.loop-event.invariant)
+      | else-says_yes v ↦ omega (arith, mask_more event f false (sym c.says_yes.ensures ∙ v.if-says_yes.false), v.mask-is, c.loop-event.invariant)
     ]
 
 pub returns : goal.returns

@@ -2,24 +2,19 @@
 -- cannot come on a settled round; a settlement records what fusion makes of the ballots; an accepted event is one that the
 -- votes allow, and the votes generate only legal strings; an open that is clear starts from the first pair.
 -- Assumes nothing.
-use Rattle.std.proofs.Common.{◌≡◌, ℕ, zero, suc, ◌-◌, ◌<◌, ◌≤◌, Bool, true, false, cond, not, ◌||◌, eqb, ltb, leb, ◌⊎◌, List, [], ◌∷◌, length, get_or, set, is_some, Some, None, Ok, Err, Option, Result, unwrap_or, sym, refl, ap, ◌∙◌, subst₂, inl, inr, ⊎_elim, arith, length-set, get_or-set_other, get_or-set_same}
+use Rattle.std.proofs.Common.{◌≡◌, ℕ, zero, suc, ◌-◌, ◌<◌, ◌≤◌, Bool, true, false, cond, ◌||◌, eqb, leb, ◌⊎◌, List, ◌∷◌, length, Some, None, Ok, Err, Option, Result, sym, refl, ap, ◌∙◌, subst₂, inl, inr, ⊎_elim, arith, length-set, get_or-set_other, get_or-set_same}
 use Rattle.std.proofs.lemmas.Bool.{cases_Bool, both_ways, and_from, and_parts, or_cases, ltb-true, leb-true, eqb-true, eq-eqb}
-use Rattle.std.proofs.str.Laws.{order}
-use Rattle.plants.specs.Masks.{bit, mask_of}
 use Rattle.plants.proofs.Ranges.{all_at}
-use Rattle.control.specs.Strings.{Follows, Possible, Legal, sight}
+use Rattle.control.specs.Strings.{Possible, Legal, sight}
 use Rattle.control.specs.Systems.{System, Keeps, first_pair}
-use Rattle.control.proofs.Strings.{follows_once}
 use Rattle.checking.specs.declared.verdict.Verdict.{Verdict}
 use Rattle.checking.specs.declared.verdict.Verdict.TheVariants.{Clear, Clash}
 use Rattle.checking.specs.declared.verdict.Refusal.{Refusal as Unchecked}
-use Rattle.theory.specs.Counterexamples.{Counterexample}
-use Rattle.theory.specs.Estimates.{estimate, told, vote, votes}
-use Rattle.theory.specs.Rules.{fusion, Generates, Exact}
+use Rattle.theory.specs.Estimates.{estimate, told}
 use Rattle.theory.specs.Rules.Generates.{added}
 use Rattle.theory.proofs.Votes.{votes_generate_legal_lem}
 use Rattle.sites.specs.Sites.{vote_mask}
-use Rattle.sessions.specs.Calls.{site, balloted, settling, happening, leaves, same_counts, is_site, has_voted, all_voted, said, fused, settled_in, allowed_in, with_ballot, with_round, with_event, next_site, first_site, opened, is_clear, Ran, Does}
+use Rattle.sessions.specs.Calls.{site, balloted, settling, happening, leaves, same_counts, has_voted, settled_in, with_ballot, with_round, with_event, next_site, first_site, opened, is_clear, Ran, Does}
 use Rattle.sessions.specs.Histories.{Exchange, History, accept, accepted, round_after, settled}
 use Rattle.sessions.specs.Status.{Status, no_site}
 use Rattle.sessions.specs.Histories.History.{new, next}
@@ -27,10 +22,9 @@ use Rattle.sessions.specs.declared.call.Call.{Call}
 use Rattle.sessions.specs.declared.call.Call.TheVariants.{Open, Ballot, Settle, Happen}
 use Rattle.sessions.specs.declared.call.Refusal.{Refusal}
 use Rattle.sessions.specs.declared.call.Reply.{Reply}
-use Rattle.sessions.specs.declared.call.Reply.TheVariants.{Checked as CheckedBy, Voted, Allowed, Moved}
-use Rattle.sessions.specs.declared.session.Site.{Site}
-use Rattle.sessions.proofs.Gates.{Balloted, ballot_passed, Settles, settle_passed, Happens, happen_passed}
-use Rattle.sessions.proofs.Running.{Running, Kept, allows}
+use Rattle.sessions.specs.declared.call.Reply.TheVariants.{Checked as CheckedBy, Allowed, Moved}
+use Rattle.sessions.proofs.Gates.{ballot_passed, settle_passed, Happens, happen_passed}
+use Rattle.sessions.proofs.Running.{Kept, allows}
 
 -- the record of a site after a ballot
 pub ballot_same : (s : Status) (i v : ℕ) → i - 1 < length s.sites → site (with_ballot s i v) i ≡ record { estimate = (site s i).estimate; ballot = Some v }

@@ -2,27 +2,26 @@
 -- leaves local rules and any other sized answer none; the votes generate exactly the legal strings, so a settled round lets
 -- exactly those happen; and a vote is taken at the estimate for what the site was shown, and at nothing else.
 -- Assumes nothing.
-use Rattle.std.proofs.Common.{◌≡◌, ℕ, ◌<◌, ◌≤◌, Bool, true, false, eqb, ltb, leb, ◌⊎◌, ◌↔◌, List, [], ◌∷◌, is_some, is_ok, Some, None, Ok, Err, Option, Result, unwrap_or, sym, refl, ap, ◌∙◌, subst, ⊎_elim, arith}
+use Rattle.std.proofs.Common.{◌≡◌, ℕ, ◌≤◌, Bool, true, false, leb, ◌↔◌, List, ◌∷◌, is_some, is_ok, Ok, Err, Result, unwrap_or, sym, refl, ap, ◌∙◌, subst, ⊎_elim, arith}
 use Rattle.std.proofs.lemmas.Bool.{cases_Bool, both_ways, and_parts, leb-true, lt-ltb}
-use Rattle.control.specs.Strings.{Follows, Possible, Legal, sight}
+use Rattle.control.specs.Strings.{Possible, Legal, sight}
 use Rattle.control.specs.Systems.{System, Keeps, first_pair}
 use Rattle.control.proofs.Strings.{follows_once}
-use Rattle.theory.specs.Estimates.{estimate, votes}
-use Rattle.theory.specs.Rules.{Rules, Generates, Exact, Kept as HasRules, fusion}
+use Rattle.theory.specs.Estimates.{estimate}
+use Rattle.theory.specs.Rules.{Rules, Generates, Kept as HasRules, fusion}
 use Rattle.theory.specs.Rules.Generates.{added}
 use Rattle.theory.proofs.Votes.{votes_generate_legal_lem}
-use Rattle.checking.specs.Answers.{Checked}
 use Rattle.checking.specs.declared.verdict.Verdict.{Verdict}
 use Rattle.checking.specs.declared.verdict.Verdict.TheVariants.{Clear, Clash}
 use Rattle.checking.specs.declared.verdict.Refusal.{Refusal as Unchecked}
 use Rattle.checking.specs.declared.verdict.Refusal.TheVariants.{VoidPlant, VoidSpec, TooManyPairs, TooFewCells, ShortTrace}
 use Rattle.sites.specs.Sites.{vote_mask}
-use Rattle.sessions.specs.Calls.{site, balloted, settling, happening, happen_gates, settled_in, Ran, Does}
-use Rattle.sessions.specs.Histories.{Exchange, History, accepted, settled, shown, Sized, ClearExactly, AcceptsExactly, AllowsExactly, EqualVotes, Promises}
+use Rattle.sessions.specs.Calls.{balloted, settling, happening, happen_gates, settled_in, Ran, Does}
+use Rattle.sessions.specs.Histories.{Exchange, History, accepted, shown, Sized, ClearExactly, AcceptsExactly, AllowsExactly, EqualVotes, Promises}
 use Rattle.sessions.specs.Status.{Status}
-use Rattle.sessions.specs.declared.call.Call.TheVariants.{Open, Ballot, Happen}
+use Rattle.sessions.specs.declared.call.Call.TheVariants.{Ballot, Happen}
 use Rattle.sessions.specs.declared.call.Refusal.{Refusal}
-use Rattle.sessions.specs.declared.call.Reply.TheVariants.{Checked as CheckedBy, Voted, Moved}
+use Rattle.sessions.specs.declared.call.Reply.TheVariants.{Voted, Moved}
 use Rattle.sessions.proofs.Gates.{grants, ballot_passed, settle_passed, happen_passed}
 use Rattle.sessions.proofs.Running.{Running, Kept, allowed_from}
 use Rattle.sessions.proofs.Keeping.{happen_legal, settle_kept, step_kept, history_kept}

@@ -3,22 +3,19 @@
 -- ballot is the vote at that estimate, and a settled round holds what fusion makes of the ballots. A closed session has no
 -- accepted event. Each call keeps this: a refused one trivially, a granted one by what its gates say.
 -- Assumes nothing.
-use Rattle.std.proofs.Common.{◌≡◌, ℕ, zero, suc, ◌-◌, ◌<◌, ◌≤◌, Bool, true, false, cond, not, ◌||◌, eqb, ltb, leb, ◌⊎◌, List, [], ◌∷◌, length, get_or, set, is_some, Some, None, Ok, Err, Option, Result, unwrap_or, sym, refl, ap, ◌∙◌, subst, inl, inr, ⊎_elim, arith, length-set, get_or-set_other, get_or-set_same}
-use Rattle.std.proofs.lemmas.Bool.{cases_Bool, both_ways, and_parts, or_cases, not-true, ltb-true, leb-true, eqb-true}
-use Rattle.std.proofs.str.Laws.{order}
-use Rattle.plants.specs.Masks.{bit, mask_of}
+use Rattle.std.proofs.Common.{◌≡◌, ℕ, suc, ◌<◌, ◌≤◌, Bool, true, false, ◌||◌, eqb, List, [], length, is_some, Some, None, Option, unwrap_or, sym, refl, ap, ◌∙◌, ⊎_elim, arith}
+use Rattle.std.proofs.lemmas.Bool.{cases_Bool, both_ways, or_cases, eqb-true}
+use Rattle.plants.specs.Masks.{bit}
 use Rattle.plants.proofs.Ranges.{all_at, mask_bit}
-use Rattle.control.specs.Strings.{Follows, Possible, Legal, sight}
+use Rattle.control.specs.Strings.{Follows, Legal, sight}
 use Rattle.control.specs.Systems.{System, Keeps}
-use Rattle.control.proofs.Strings.{follows_once}
 use Rattle.theory.specs.Counterexamples.{Counterexample}
 use Rattle.theory.specs.Estimates.{estimate, vote, votes}
-use Rattle.theory.specs.Rules.{fusion, Generates, Exact}
+use Rattle.theory.specs.Rules.{fusion}
 use Rattle.theory.proofs.Fusion.{conjunctive_from, conjunctive_each, disjunctive_from, disjunctive_some}
 use Rattle.sites.specs.Sites.{vote_mask}
-use Rattle.sessions.specs.Calls.{site, same_counts, is_site, has_voted, all_voted, said, fused, settled_in, allowed_in, with_ballot, with_event}
-use Rattle.sessions.specs.Status.{Status, no_site}
-use Rattle.sessions.specs.declared.session.Site.{Site}
+use Rattle.sessions.specs.Calls.{site, same_counts, has_voted, all_voted, said, fused, settled_in, allowed_in}
+use Rattle.sessions.specs.Status.{Status}
 
 -- an opened session, where u are the accepted events
 pub record Running (w : System) (u : List ℕ) (s : Status) : Type 0 where

@@ -1,7 +1,7 @@
 -- What each call of a session answers, and what session it leaves. A call is granted or refused by its gates: tests in
 -- order, each with the refusal that it gives where it fails. A refused call leaves the session as it was.
 -- Assumes nothing.
-use Rattle.std.specs.Prelude.{◌≡◌, ℕ, suc, ◌-◌, Bool, true, false, cond, not, ◌&&◌, ◌||◌, List, [], ◌∷◌, is_some, Some, None, Ok, Err, Option, Result, ◌==◌, nat_le, nat_lt, slice_index_or, slice_set}
+use Rattle.std.specs.Prelude.{◌≡◌, ℕ, suc, ◌-◌, Bool, true, false, cond, not, ◌&&◌, ◌||◌, List, [], ◌∷◌, is_some, Some, None, Ok, Err, Result, ◌==◌, nat_le, nat_lt, slice_index_or, slice_set}
 use Rattle.std.specs.Option.{unwrap_or}
 use Rattle.plants.specs.Masks.{bit, mask_of}
 use Rattle.plants.specs.Ranges.{any, all}

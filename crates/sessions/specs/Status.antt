@@ -1,5 +1,5 @@
 -- What a session holds. Assumes nothing.
-use Rattle.std.specs.Prelude.{ℕ, ◌-◌, Bool, false, List, [], ◌∷◌, get_or, None}
+use Rattle.std.specs.Prelude.{ℕ, Bool, false, List, [], ◌∷◌, None}
 use Rattle.sessions.specs.declared.session.Round.{Round}
 use Rattle.sessions.specs.declared.session.Round.TheVariants.{Voting}
 use Rattle.sessions.specs.declared.session.Session.{Session}

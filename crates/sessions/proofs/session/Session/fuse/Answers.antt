@@ -12,8 +12,8 @@ use Rattle.sessions.proofs.session.Session.fuse.Goals.{then-allows, else-allows}
 pub loop-event-init : goal.loop-event-init
 loop-event-init c = sym (mask_none _)
 
-pub overflow-add-mask : goal.overflow-add-mask
-overflow-add-mask c =
+pub overflow_add-mask : goal.overflow_add-mask
+overflow_add-mask c =
     let e = c.loop-event.event in
     let low = mask_below e (λ d. fusion (setup c.args.problem.now) d (λ i. said (status c.args.self.now) i d)) in
     let few : 2 ^ e ≤ 2 ^ 31 = pow_mono {j = 31} (omega (arith, c.args.problem.now.counts.1)) in

@@ -15,8 +15,8 @@ returns g c =
     let w = system (setup p) (g.P.Plant.meaning c.args.plant.now) (g.S.Plant.meaning c.args.spec.now) in
     let s = status c.args.self.now in
     let keeps : Keeps w = record { setup = setup_sound p; plant = g.met.P.Plant.lawful c.args.plant.now; spec = g.met.S.Plant.lawful c.args.spec.now } in
-    let (on, (counts, end)) = (passed (later w s []) tt tt (sym c.in-ok-admit.ensures)).0 in
-    let voting : not (settled_in s.round) ≡ true = ap (λ r. not (settled_in r)) c.in-default.is in
-    let voted : all_voted w s ≡ true = ap (λ n. all (suc n) (λ i. eqb i 0 || has_voted s i)) (sym c.sites.ensures) ∙ sym c.if-not-all-voted.ensures in
+    let (on, (counts, end)) = (passed (later w s []) tt tt (sym c.in_ok-admit.ensures)).0 in
+    let voting : not (settled_in s.round) ≡ true = ap (λ r. not (settled_in r)) c.in_default.is in
+    let voted : all_voted w s ≡ true = ap (λ n. all (suc n) (λ i. eqb i 0 || has_voted s i)) (sym c.sites.ensures) ∙ sym c.if-not-all_voted.ensures in
     let is : settling w s ≡ Ok c.fuse-mask.result = grants (settle_gates w s) (fused w s) (on, (counts, (voting, (voted, tt)))) ∙ ap Ok (sym c.fuse-mask.ensures) in
     record { does = settle_does w s c.fuse-mask.result is; exactly = λ h past. allows_exactly w keeps p.counts.3 past (Ok c.fuse-mask.result) is }

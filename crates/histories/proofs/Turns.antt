@@ -1,11 +1,11 @@
 -- One turn of a replay: one more call with its reply, at the end of the lists, is the newest exchange of the history.
 -- Assumes nothing.
-use Rattle.std.proofs.Common.{◌≡◌, ℕ, suc, ◌+◌, ◌<◌, ◌≤◌, List, [], ◌∷◌, ◌++◌, reverse, length, get_or, take, sym, refl, ap, ◌∙◌, subst, arith, length-take-le}
+use Rattle.std.proofs.Common.{◌≡◌, ℕ, ◌+◌, ◌<◌, List, [], ◌∷◌, ◌++◌, reverse, length, get_or, take, sym, refl, ap, ◌∙◌, subst, arith, length-take-le}
 use mathlib.Core.List.{reverse-append}
 use Rattle.std.proofs.lemmas.List.{take_more}
 use Rattle.control.specs.Systems.{System}
 use Rattle.sessions.specs.Calls.{Does}
-use Rattle.sessions.specs.Histories.{Exchange, History}
+use Rattle.sessions.specs.Histories.{History}
 use Rattle.sessions.specs.Histories.History.{next}
 use Rattle.sessions.specs.Status.{Status}
 use Rattle.sessions.specs.declared.call.Call.{Call}

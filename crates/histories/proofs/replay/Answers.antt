@@ -11,9 +11,9 @@ use Rattle.sessions.proofs.Promised.{promised}
 use Rattle.histories.proofs.Turns.{one_more}
 use Rattle.histories.proofs.replay.Goals as goal
 
-pub returns-in-err-push : goal.returns-in-err-push
-returns-in-err-push g c =
-    let (x, is, from) = err_from_is_err_and c.from-residual.result c.from-residual.ensures.1 in
+pub returns-in_err-push : goal.returns-in_err-push
+returns-in_err-push g c =
+    let (x, is, from) = err_from_is_err_and c.from_residual.result c.from_residual.ensures.1 in
     rw is (record { history = tt; replies = tt; promises = promised (system (setup c.args.problem.now) (g.P.Plant.meaning c.args.plant.now) (g.S.Plant.meaning c.args.spec.now)) (record { setup = setup_sound c.args.problem.now; plant = g.met.P.Plant.lawful c.args.plant.now; spec = g.met.S.Plant.lawful c.args.spec.now }) c.args.problem.now.counts.3 })
 
 pub loop-call-init : goal.loop-call-init
@@ -22,9 +22,9 @@ loop-call-init g c =
 
 pub loop-call-preserved : goal.loop-call-preserved
 loop-call-preserved g c =
-    let pushed = chosen _ _ _ _ c.push.ensures.items (ap is_ok c.in-ok-push.was) in
+    let pushed = chosen _ _ _ _ c.push.ensures.items (ap is_ok c.in_ok-push.was) in
     let long : length (vec_items c.loop-call.replies) ≡ c.loop-call.call-index = omega (arith, c.loop-call.invariant.1, c.loop-call.replies.ok.0) in
-    let longer = chosen _ _ _ _ c.push.ensures.len (ap is_ok c.in-ok-push.was) in
+    let longer = chosen _ _ _ _ c.push.ensures.len (ap is_ok c.in_ok-push.was) in
     (omega arith, omega (arith, longer, c.loop-call.invariant.1), one_more _ c.args.calls.now (vec_items c.loop-call.replies) _ c.loop-call.call-index _ c.perform.result _ _ c.loop-call-test.true long (get_or_default c.args.calls.now c.loop-call.call-index _ _ c.loop-call-test.true) pushed c.loop-call.invariant.2 c.perform.ensures)
 
 pub returns : goal.returns

@@ -1,7 +1,7 @@
 -- Sound frames stand in the stated order. What may follow them says which part of the order they make up, and each frame
 -- that is due and in range makes the next part of it; a frame that is not due is one case of the many that are empty.
 -- Assumes nothing.
-use Rattle.std.proofs.Common.{◌≡◌, ℕ, suc, ◌+◌, ◌≤◌, true, false, cond, eqb, ltb, leb, List, [], ◌∷◌, sym, refl, ap, ◌∙◌, subst, inl, inr, arith}
+use Rattle.std.proofs.Common.{◌≡◌, ℕ, suc, ◌+◌, ◌≤◌, true, cond, eqb, ltb, leb, List, [], ◌∷◌, sym, refl, ap, ◌∙◌, subst, inl, inr, arith}
 use Rattle.std.proofs.lemmas.Bool.{and_parts, cond_both, eqb-true, leb-true, ltb-true, ltb-false, false≢true}
 use Rattle.plants.specs.Machine.{Machine}
 use Rattle.plants.specs.Masks.{width}

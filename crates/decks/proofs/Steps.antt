@@ -6,7 +6,7 @@ use Rattle.std.proofs.lemmas.Bool.Decides.{nat_tests}
 use Rattle.decks.specs.Decks.{Broken, Faults, IsFrame, Reads, Sound, Spells, most_bytes, stage}
 use Rattle.frames.specs.Digits.{byte_at}
 use Rattle.frames.specs.Frames.{Frame, frame_at, line_lengths, of_line, read_frame, with_rest}
-use Rattle.frames.specs.Lines.{BeginsWith, Line, first_line, line_feed}
+use Rattle.frames.specs.Lines.{BeginsWith, first_line, line_feed}
 use Rattle.decks.specs.Order.{State, complete, due, frame_fault, in_range, moved, second}
 use Rattle.decks.specs.Reader.{Took, judged, next, taken}
 use Rattle.decks.specs.Said.{said, says}

@@ -11,25 +11,25 @@ take-requires c =
     let so_far = c.loop-rest.invariant in
     subst Placed (sym so_far.now) (sound_placed so_far.frames so_far.sound)
 
-pub returns-in-err-rest : goal.returns-in-err-rest
-returns-in-err-rest c =
-    let p = err_from_is_err_and c.from-residual.result c.from-residual.ensures.1 in
+pub returns-in_err-rest : goal.returns-in_err-rest
+returns-in_err-rest c =
+    let p = err_from_is_err_and c.from_residual.result c.from_residual.ensures.1 in
     let some : 0 < length c.loop-rest.rest.now = omega (arith, false-eqb _ 0 c.loop-rest-test.ensures) in
-    rw (p.1, p.2) (stopped _ _ _ _ (state c.take.new.self) _ c.requires c.loop-rest.invariant some c.in-err-rest.ensures)
+    rw (p.1, p.2) (stopped _ _ _ _ (state c.take.new.self) _ c.requires c.loop-rest.invariant some c.in_err-rest.ensures)
 
 pub loop-rest-smaller : goal.loop-rest-smaller
-loop-rest-smaller c = taken_less _ _ _ _ _ c.in-ok-rest.ensures
+loop-rest-smaller c = taken_less _ _ _ _ _ c.in_ok-rest.ensures
 
 pub loop-rest-preserved : goal.loop-rest-preserved
-loop-rest-preserved c = taken_more _ _ _ _ _ _ c.loop-rest.invariant c.in-ok-rest.ensures
+loop-rest-preserved c = taken_more _ _ _ _ _ _ c.loop-rest.invariant c.in_ok-rest.ensures
 
-pub returns-in-err-deck : goal.returns-in-err-deck
-returns-in-err-deck c =
-    let p = err_from_is_err_and c.from-residual-in-err-deck.result c.from-residual-in-err-deck.ensures.1 in
-    let told = c.in-err-deck.ensures in
+pub returns-in_err-deck : goal.returns-in_err-deck
+returns-in_err-deck c =
+    let p = err_from_is_err_and c.from_residual-in_err-deck.result c.from_residual-in_err-deck.ensures.1 in
+    let told = c.in_err-deck.ensures in
     rw (p.1, p.2, told.0) (ended _ _ _ _ c.requires c.loop-rest.invariant (true-eqb _ 0 c.loop-rest-test.ensures) told.1)
 
 pub returns : goal.returns
 returns c =
-    let told = c.in-ok-deck.ensures in
-    whole _ _ _ _ c.in-ok-deck.deck c.requires c.loop-rest.invariant (true-eqb _ 0 c.loop-rest-test.ensures) told.1 told.0
+    let told = c.in_ok-deck.ensures in
+    whole _ _ _ _ c.in_ok-deck.deck c.requires c.loop-rest.invariant (true-eqb _ 0 c.loop-rest-test.ensures) told.1 told.0

@@ -1,7 +1,7 @@
 -- What is appended to an output piece by piece is appended to it whole: one byte is a write at its place, and pieces that
 -- follow each other join. The digits of bytes join in the same way, and a line feed makes a line of them.
 -- Assumes nothing.
-use Rattle.std.proofs.Common.{◌≡◌, ℕ, suc, ◌+◌, ◌-◌, ◌*◌, ◌/◌, ◌%◌, ◌<◌, ◌≤◌, true, false, cond, List, [], ◌∷◌, ◌++◌, length, get_or, take, drop, set, sym, refl, ap, ◌∙◌, subst, add-one, arith, length-append, length-set}
+use Rattle.std.proofs.Common.{◌≡◌, ℕ, ◌+◌, ◌*◌, ◌/◌, ◌%◌, ◌<◌, true, false, cond, List, [], ◌∷◌, ◌++◌, length, get_or, take, drop, set, sym, refl, ap, ◌∙◌, subst, add-one, arith, length-append, length-set}
 use Rattle.std.proofs.lemmas.List.{append_assoc, append-nil, drop-drop, drop-set-lt, take_more, take_more_set}
 use Rattle.std.proofs.lemmas.Bool.{cond-false, cond-true}
 use Rattle.control.specs.Setup.{Setup}

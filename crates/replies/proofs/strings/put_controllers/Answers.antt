@@ -1,4 +1,4 @@
-use Rattle.std.proofs.Common.{◌≡◌, ◌+◌, sym, ap, ◌∙◌, arith}
+use Rattle.std.proofs.Common.{◌≡◌, sym, ap, ◌∙◌, arith}
 use Rattle.control.specs.Problems.{setup}
 use Rattle.checking.specs.Traces.{string_of}
 use Rattle.frames.specs.Replies.{written}
@@ -21,8 +21,8 @@ loop-k-preserved c =
     let at = c.rising-site.ensures in
     elim c.if-controls.branch [
       | then-controls w ↦ (
-        renamed w.out-is w.place-is (retold (strings_joins p c.args.event c.args.run.now k (ap (λ i. p.controls i c.args.event) (sym at) ∙ sym c.controls.ensures ∙ w.if-controls.true)) (onward _ _ _ _ _ _ _ _ was.0 (retold (ap (λ i. written (bytes_of (string i (string_of p i c.args.run.now)))) at) w.put-string-place.ensures.line))),
-        omega (arith, w.place-is, w.put-string-place.ensures.bound, was.1),
+        renamed w.out-is w.place-is (retold (strings_joins p c.args.event c.args.run.now k (ap (λ i. p.controls i c.args.event) (sym at) ∙ sym c.controls.ensures ∙ w.if-controls.true)) (onward _ _ _ _ _ _ _ _ was.0 (retold (ap (λ i. written (bytes_of (string i (string_of p i c.args.run.now)))) at) w.put_string-place.ensures.line))),
+        omega (arith, w.place-is, w.put_string-place.ensures.bound, was.1),
       )
       | else-controls w ↦ (
         renamed w.out-is w.place-is (retold (strings_stay p c.args.event c.args.run.now k (ap (λ i. p.controls i c.args.event) (sym at) ∙ sym c.controls.ensures ∙ w.if-controls.false)) was.0),

@@ -15,7 +15,7 @@ returns c =
     let first = written (bytes_of (clash c.args.event (length run))) in
     let second = written (bytes_of (string 0 (string_of p 0 run))) in
     let rest = text_of (strings_to p c.args.event run p.sites) in
-    let room : leb (c.args.at + 2594) (length c.args.out.now) ≡ true = sym c.if-not-has-room.ensures in (
-      and_from (leb (length run) 256) _ (le-leb (length run) 256 c.if-run-gt-MOST-MOVES.false) room,
-      retold (append_assoc first second rest) (onward _ _ _ _ _ _ _ _ (onward _ _ _ _ _ _ _ _ c.put-place.ensures c.put-string-place.ensures.line) c.put-controllers.ensures),
+    let room : leb (c.args.at + 2594) (length c.args.out.now) ≡ true = sym c.if-not-has_room.ensures in (
+      and_from (leb (length run) 256) _ (le-leb (length run) 256 c.if-run-gt-MOST_MOVES.false) room,
+      retold (append_assoc first second rest) (onward _ _ _ _ _ _ _ _ (onward _ _ _ _ _ _ _ _ c.put-place.ensures c.put_string-place.ensures.line) c.put_controllers.ensures),
     )

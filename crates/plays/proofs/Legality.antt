@@ -9,16 +9,15 @@ use Rattle.checking.specs.declared.verdict.Verdict.TheVariants.{Clear}
 use Rattle.sessions.specs.Calls.{Ran, allowed_in, happening, leaves, opened, refusal_number, with_event}
 use Rattle.sessions.specs.Histories.{accept, round_after}
 use Rattle.sessions.specs.Histories.History.{new}
-use Rattle.sessions.specs.Status.{Status, closed}
+use Rattle.sessions.specs.Status.{Status}
 use Rattle.sessions.specs.declared.call.Call.TheVariants.{Open as OpenCall, Happen}
 use Rattle.sessions.specs.declared.call.Refusal.{Refusal}
 use Rattle.sessions.specs.declared.call.Refusal.TheVariants.{CountDiffers, Closed, NoSite, HasVoted, BallotMissing, IsSettled, NotSettled, NoEvent, NotAllowed, NoStep}
 use Rattle.sessions.specs.declared.call.Reply.TheVariants.{Checked, Moved}
 use Rattle.sessions.proofs.Keeping.{history_kept, step_kept}
 use Rattle.sessions.proofs.Promised.{accepts_exactly, legal_kept}
-use Rattle.sessions.proofs.Running.{Kept}
-use Rattle.replies.specs.Lines.{Reply, fault, clear, clash, string, played}
-use Rattle.replies.specs.Plays.{PlaysStayLegal, after_play, granted, granted_after, outcome_number, play_replies, play_reply, ready}
+use Rattle.replies.specs.Lines.{Reply, played}
+use Rattle.replies.specs.Plays.{PlaysStayLegal, after_play, granted_after, outcome_number, play_replies, play_reply, ready}
 use Rattle.plays.proofs.Ready.{Open, ready_open}
 
 -- no refusal has the number 0

@@ -1,14 +1,12 @@
 -- Before an event is played the round is settled, and nothing else has changed. In an open session every site of the problem
 -- may cast its ballot, so after all of them were asked each has voted, and then a round that is not settled can be.
 -- Assumes nothing.
-use Rattle.std.proofs.Common.{◌≡◌, ℕ, zero, suc, ◌-◌, ◌<◌, ◌≤◌, Bool, true, false, not, ◌||◌, eqb, leb, ◌⊎◌, List, [], ◌∷◌, length, is_some, Ok, Err, Result, sym, refl, ap, ◌∙◌, subst, ⊎_elim, arith}
+use Rattle.std.proofs.Common.{◌≡◌, ℕ, zero, suc, ◌-◌, ◌<◌, ◌≤◌, Bool, true, not, ◌||◌, eqb, leb, List, length, is_some, Ok, Err, Result, sym, refl, ap, ◌∙◌, subst, ⊎_elim, arith}
 use Rattle.std.proofs.lemmas.Bool.{and_from, cases_Bool, cases_eq, eq-eqb, le-leb, or_left, or_right}
-use Rattle.plants.specs.Ranges.{all}
 use Rattle.plants.proofs.Ranges.{all_from}
 use Rattle.control.specs.Systems.{System, Keeps}
 use Rattle.sites.specs.Sites.{vote_mask}
 use Rattle.sessions.specs.Calls.{all_voted, ballot_gates, balloted, fused, has_voted, is_site, leaves, settle_gates, settled_in, settling, site, with_ballot, with_round}
-use Rattle.sessions.specs.Histories.{round_after}
 use Rattle.sessions.specs.Status.{Status}
 use Rattle.sessions.specs.declared.call.Call.TheVariants.{Ballot, Settle}
 use Rattle.sessions.specs.declared.call.Refusal.{Refusal}

@@ -1,7 +1,7 @@
 -- From what each step of a run says to what the whole comes to: why there are no replies, or which replies they are and that
 -- the plays among them stay legal. A text tells one thing only, so what holds of the deck that was read holds of whatever the
 -- text tells. Assumes nothing.
-use Rattle.std.proofs.Common.{◌≡◌, ℕ, ◌≤◌, cond, List, [], ◌∷◌, length, take, drop, Ok, Err, Result, sym, refl, ◌∙◌, subst, arith}
+use Rattle.std.proofs.Common.{◌≡◌, ℕ, ◌≤◌, cond, List, ◌∷◌, take, Ok, Err, refl, subst, arith}
 use Rattle.control.specs.Setup.{Setup}
 use Rattle.control.specs.Systems.{System, Keeps, system}
 use Rattle.theory.specs.declared.moves.Move.{Move}
@@ -15,13 +15,13 @@ use Rattle.decks.specs.Said.{Said}
 use Rattle.decks.proofs.Unique.{tells_once}
 use Rattle.replies.specs.Decks.{check_replies, makes, most_moves, said_plant, said_setup, said_system}
 use Rattle.replies.specs.Decks.Gets.{unread, unmade, checked}
-use Rattle.replies.specs.Lines.{Appends, Reply, clear, clash_replies, text_of}
+use Rattle.replies.specs.Lines.{Appends, clear, clash_replies, text_of}
 use Rattle.replies.specs.Plays.{PlaysStayLegal, play_replies}
 use Rattle.plays.proofs.Legality.{plays_stay_legal}
 use Rattle.control.specs.declared.problem.Unmade.{Unmade}
 use Rattle.decks.specs.declared.unread.Unread.{Unread}
 use Rattle.decks.specs.declared.unread.Unread.TheVariants as reading
-use Rattle.run.specs.Runs.{Answered, Asked, Replied, Shown, Unaltered}
+use Rattle.run.specs.Runs.{Answered, Asked, Replied, Shown}
 use Rattle.run.specs.Stops.{stop_of}
 use Rattle.run.specs.declared.stop.Fault.TheVariants.{Check, Make}
 use Rattle.run.specs.declared.stop.Stop.TheVariants.{Faulty}

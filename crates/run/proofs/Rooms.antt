@@ -1,6 +1,6 @@
 -- There is room for the replies. The line of a play takes five bytes of the deck, so a deck has at most a fifth as many plays
 -- as bytes; and the run of a clash fits the part of the trace that is lent. Assumes nothing.
-use Rattle.std.proofs.Common.{◌≡◌, ℕ, zero, suc, ◌+◌, ◌-◌, ◌*◌, ◌≤◌, Bool, true, false, cond, ◌&&◌, eqb, leb, List, [], ◌∷◌, ◌++◌, length, get_or, take, Ok, Err, Result, sym, refl, ap, ◌∙◌, subst, ⊎_elim, arith, length-append, length-take}
+use Rattle.std.proofs.Common.{◌≡◌, ℕ, zero, suc, ◌+◌, ◌-◌, ◌*◌, ◌≤◌, Bool, true, false, cond, ◌&&◌, eqb, leb, List, [], ◌∷◌, length, get_or, take, Ok, Err, Result, sym, refl, ap, ◌∙◌, ⊎_elim, arith, length-append, length-take}
 use native.Mathlib.Nat.{min-le_left, min-le_right}
 use Rattle.std.proofs.lemmas.Bool.{and_parts, cases_Bool, cond_both, cond-false, cond-true, eqb-true, leb-true}
 use Rattle.plants.specs.Machine.{Machine}
@@ -9,7 +9,7 @@ use Rattle.frames.specs.Digits.{byte_at}
 use Rattle.frames.specs.Frames.{Frame, header, site, table, step, counter, play, frame_at, frame_of, line_lengths}
 use Rattle.frames.specs.Lines.{line_feed}
 use Rattle.frames.specs.declared.faults.FrameFault.{FrameFault}
-use Rattle.decks.specs.Decks.{Spells, Tells, most_bytes}
+use Rattle.decks.specs.Decks.{Spells, Tells}
 use Rattle.decks.specs.Said.{Said, adds, said, table_named, with_plant, with_spec, with_table}
 
 -- a line of that length is a frame of that kind, or a fault

@@ -8,4 +8,4 @@ pub returns : goal.returns
 unfolding ready
 returns g c =
     let w = system (setup c.args.problem.now) (g.P.Plant.meaning c.args.plant.now) (g.S.Plant.meaning c.args.spec.now) in
-    c.settle.ensures.does.1 ∙ ap (settle w) c.cast-missing.ensures
+    c.settle.ensures.does.1 ∙ ap (settle w) c.cast_missing.ensures

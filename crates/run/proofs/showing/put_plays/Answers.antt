@@ -1,4 +1,4 @@
-use Rattle.std.proofs.Common.{◌≡◌, ℕ, ◌+◌, length, get_or, take, sym, ap, ◌∙◌, arith, take_all}
+use Rattle.std.proofs.Common.{◌≡◌, length, get_or, sym, ap, ◌∙◌, arith, take_all}
 use Rattle.control.specs.Problems.{setup}
 use Rattle.control.specs.Systems.{system}
 use Rattle.frames.specs.Replies.{written}
@@ -7,7 +7,7 @@ use Rattle.replies.specs.Lines.{bytes_of, text_of}
 use Rattle.replies.specs.Plays.{after_play, play_replies, play_reply}
 use Rattle.replies.specs.Writing.{reply}
 use Rattle.replies.proofs.Appending.{nothing, onward, retold}
-use Rattle.run.proofs.Playing.{after_more, after_plays, no_plays, replies_more}
+use Rattle.run.proofs.Playing.{after_more, no_plays, replies_more}
 use Rattle.run.proofs.showing.put_plays.Goals as goal
 
 pub put-place-requires : goal.put-place-requires
@@ -25,11 +25,11 @@ loop-event-preserved g c =
     let i = c.loop-event.event-index in
     let was = c.loop-event.invariant in
     let low = c.loop-event-test.true in
-    let answer = c.play_reply.ensures.value ∙ ap (λ t. play_reply w t (get_or es i 0)) was.1 in
+    let answer = c.play-reply.ensures.value ∙ ap (λ t. play_reply w t (get_or es i 0)) was.1 in
     let line = ap (λ r. written (bytes_of r)) answer in
-    let long : length (written (bytes_of (reply c.play_reply.result))) ≡ 15 = ap length line in (
+    let long : length (written (bytes_of (reply c.play-reply.result))) ≡ 15 = ap length line in (
       retold (replies_more w s es i low) (onward _ _ _ _ _ _ _ _ was.0 (retold line c.put-place.ensures)),
-      c.play_reply.ensures.after ∙ ap (λ t. after_play w t (get_or es i 0)) was.1 ∙ after_more w s es i low,
+      c.play-reply.ensures.after ∙ ap (λ t. after_play w t (get_or es i 0)) was.1 ∙ after_more w s es i low,
       omega (arith, c.put-place.ensures.count, long, was.2),
     )
 

@@ -2,6 +2,7 @@
 ghost use Rattle.std.specs.Prelude.{Some};
 ghost use Rattle.fuse.specs.Lines.{line};
 
+use std::alloc::AllocError;
 use std::fmt;
 
 #[derive(Clone, Copy)]
@@ -21,5 +22,11 @@ impl fmt::Display for Failure {
             Failure::Running => f.write_str("out of memory"),
             Failure::Writing => f.write_str("cannot write the replies"),
         }
+    }
+}
+
+impl From<AllocError> for Failure {
+    fn from(_: AllocError) -> Failure {
+        Failure::Running
     }
 }

@@ -11,9 +11,10 @@ ghost use Rattle.fuse.specs.Answers.{Answers};
 use decks::MOST_BYTES;
 use failure::Failure;
 use run::{LEAST_OUTPUT, run};
-use std::alloc::{AllocError, Global};
+use std::alloc::Global;
 use std::io;
 use std::io::{ErrorKind, Read, Write};
+use std::process::ExitCode;
 use theory::Move;
 
 // What a run is lent.
@@ -34,7 +35,7 @@ fn read_deck(rt: &HostRuntime) -> io::Result<Vec<u8>> {
 }
 
 // The replies to a deck.
-fn replies_to(heap: Global, text: &[u8]) -> Result<Vec<u8>, AllocError>
+fn replies_to(heap: Global, text: &[u8]) -> Result<Vec<u8>, Failure>
     ensures { IfOk result (λ replies. Answers text.now replies.items) }
 {
     let mut cells = vec![in heap; 0; CELLS]?;
@@ -45,7 +46,7 @@ fn replies_to(heap: Global, text: &[u8]) -> Result<Vec<u8>, AllocError>
             out.truncate(count);
             Ok(out)
         }
-        Err(_) => Err(AllocError),
+        Err(_) => Err(Failure::Running),
     }
 }
 
@@ -55,19 +56,19 @@ fn fuse(rt: &HostRuntime) -> Result<(), Failure> {
         Err(error) if error.kind() == ErrorKind::OutOfMemory => return Err(Failure::Running),
         Err(_) => return Err(Failure::Reading),
     };
-    let Ok(replies) = replies_to(rt.alloc(), text.as_slice()) else {
-        return Err(Failure::Running);
-    };
+    let replies = replies_to(rt.alloc(), text.as_slice())?;
     match rt.stdout().write_all(replies.as_slice()) {
         Ok(()) => Ok(()),
         Err(_) => Err(Failure::Writing),
     }
 }
 
-fn main(rt: HostRuntime) -> Result<(), Failure> {
-    let done = fuse(&rt);
-    if let Err(failure) = done {
-        let _ = eprintln!(rt; "fuse: {failure}");
+fn main(rt: HostRuntime) -> ExitCode {
+    match fuse(&rt) {
+        Ok(()) => ExitCode::SUCCESS,
+        Err(failure) => {
+            let _ = eprintln!(rt; "fuse: {failure}");
+            ExitCode::FAILURE
+        }
     }
-    done
 }

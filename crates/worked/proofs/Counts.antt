@@ -1,7 +1,7 @@
 -- The counts of a product, by putting the counts of its parts into the test of whether they join. Assumes nothing.
 use Rattle.std.proofs.Common.{◌≡◌, ℕ, ◌*◌, ◌&&◌, leb, ap, ◌∙◌}
 use Rattle.std.proofs.lemmas.Bool.{cond-true, cond-false}
-use Rattle.plants.specs.Machine.{Machine, most_states, void}
+use Rattle.plants.specs.Machine.{Machine, most_states}
 use Rattle.plants.specs.Products.{joins}
 use Rattle.worked.specs.Cases.{ProductsCount}
 

@@ -2,7 +2,7 @@
 -- are: a table with listed steps does not depend on their order, a row of masks is a test of the bits of its sites, and a
 -- plant with a counter that counts to 0 is the plant. Assumes nothing.
 use Rattle.std.proofs.Common.{◌≡◌, ℕ, zero, suc, ◌+◌, ◌-◌, ◌*◌, ◌/◌, ◌%◌, Bool, true, false, cond, ◌&&◌, ◌||◌, eqb, ltb, leb, List, [], ◌∷◌, reverse, get_or, Some, None, Option, sym, refl, ap, ◌∙◌, div-one, arith}
-use mathlib.Core.Bool.{and_false, or-false, and-or_distrib_right}
+use mathlib.Core.Bool.{and-false, or-false, and-or_distrib_right}
 use native.Mathlib.Nat.{mod-one}
 use Rattle.std.proofs.lemmas.Bool.{cond-true, ne_eqb, lt-ltb}
 use Rattle.std.specs.Option.{option_map}
@@ -49,7 +49,7 @@ row_bits a c (suc (suc zero)) e = refl
 row_bits a c (suc (suc (suc i))) e =
     let past : suc (suc (suc i)) - 1 ≡ suc (suc i) = omega arith in
     let no_row : bit (get_or (a ∷ c ∷ 0 ∷ 0 ∷ []) (suc (suc (suc i)) - 1) 0) e ≡ false = ap (λ k. bit (get_or (a ∷ c ∷ 0 ∷ 0 ∷ []) k 0) e) past ∙ ap (λ m. bit m e) (none_past a c i) ∙ bit_zero e in
-    ap (λ t. leb 1 (suc (suc (suc i))) && t) no_row ∙ and_false (leb 1 (suc (suc (suc i))))
+    ap (λ t. leb 1 (suc (suc (suc i))) && t) no_row ∙ and-false (leb 1 (suc (suc (suc i))))
     ∙ sym (ap (λ t. (t && bit a e) || (eqb (suc (suc (suc i))) 2 && bit c e)) (ne_eqb (suc (suc (suc i))) 1 (λ h. omega arith)) ∙ ap (λ t. t && bit c e) (ne_eqb (suc (suc (suc i))) 2 (λ h. omega arith)))
 
 -- the setup of a deck, by its modes and the events controlled
@@ -75,7 +75,7 @@ two_sites_said b =
 
 no_controllers_said : filled 3 2 0 (1 ∷ 2 ∷ 0 ∷ 0 ∷ []) (0 ∷ 0 ∷ 0 ∷ 0 ∷ []) ≡ uncontrolled.setup
 no_controllers_said =
-    same_setup 0 0 (λ i e. false) (λ e. false) (λ i e. ap (λ t. (eqb i 1 || eqb i 2) && t) (bit_zero e) ∙ and_false (eqb i 1 || eqb i 2)) bit_zero
+    same_setup 0 0 (λ i e. false) (λ e. false) (λ i e. ap (λ t. (eqb i 1 || eqb i 2) && t) (bit_zero e) ∙ and-false (eqb i 1 || eqb i 2)) bit_zero
 
 -- a step that stays within its tests and keeps its state
 kept_step : (a b : Bool) (f : ℕ → ℕ) (o : Option ℕ) → ((r : ℕ) → o ≡ Some r → (a ≡ true) × (b ≡ true)) → ((r : ℕ) → f r ≡ r) → cond a (cond b (option_map f o) None) None ≡ o

@@ -1,6 +1,6 @@
 -- The worked cases, as sentences about check, run and products: two examples under two fusions, one of them without a
 -- controller, the sizes at which a check is refused, and the counts of a product. Assumes nothing.
-use Rattle.std.specs.Prelude.{◌≡◌, ℕ, ◌<◌, ◌≤◌, Bool, true, false, cond, List, [], ◌∷◌, ◌++◌, length, take, Ok, Err, codes, Result}
+use Rattle.std.specs.Prelude.{◌≡◌, ℕ, ◌≤◌, Bool, true, false, cond, List, [], ◌∷◌, ◌++◌, length, take, Ok, Err, codes, Result}
 use Rattle.plants.specs.Machine.{Machine, void}
 use Rattle.plants.specs.Products.{product}
 use Rattle.control.specs.Systems.{System}

@@ -43,68 +43,68 @@ site_more i j a b fs same (n, k, is, bounds, count, before) =
     (n, subst (λ x. SitesAfter n x (site j a b ∷ fs)) whole here))
 
 shape_more : (s : Stage) (f : Frame) (fs : List Frame) → due s f ≡ true → in_range s (said fs) f ≡ true → Shape s fs → Shape (after (said fs).sites s f) (f ∷ fs)
-shape_more Header (header e n m) fs is-due few h =
+shape_more Header (header e n m) fs is_due few h =
     let parts = header_told e n m few in
     (n, 0, refl, (parts.1, parts.2), refl, (header e n m, fs, refl, (e, m, refl), h))
-shape_more Header (site j a b) fs is-due few h = absurd (false≢true is-due)
-shape_more Header (table r n q a) fs is-due few h = absurd (false≢true is-due)
-shape_more Header (step r p e q) fs is-due few h = absurd (false≢true is-due)
-shape_more Header (counter u d l) fs is-due few h = absurd (false≢true is-due)
-shape_more Header (play e) fs is-due few h = absurd (false≢true is-due)
-shape_more (Site i) (header e n m) fs is-due few h = absurd (false≢true is-due)
-shape_more (Site i) (site j a b) fs is-due few h =
+shape_more Header (site j a b) fs is_due few h = absurd (false≢true is_due)
+shape_more Header (table r n q a) fs is_due few h = absurd (false≢true is_due)
+shape_more Header (step r p e q) fs is_due few h = absurd (false≢true is_due)
+shape_more Header (counter u d l) fs is_due few h = absurd (false≢true is_due)
+shape_more Header (play e) fs is_due few h = absurd (false≢true is_due)
+shape_more (Site i) (header e n m) fs is_due few h = absurd (false≢true is_due)
+shape_more (Site i) (site j a b) fs is_due few h =
     site_more i j a b fs few h
-shape_more (Site i) (table r n q a) fs is-due few h = absurd (false≢true is-due)
-shape_more (Site i) (step r p e q) fs is-due few h = absurd (false≢true is-due)
-shape_more (Site i) (counter u d l) fs is-due few h = absurd (false≢true is-due)
-shape_more (Site i) (play e) fs is-due few h = absurd (false≢true is-due)
-shape_more PlantTable (header e n m) fs is-due few h = absurd (false≢true is-due)
-shape_more PlantTable (site j a b) fs is-due few h = absurd (false≢true is-due)
-shape_more PlantTable (table r n q a) fs is-due few h =
-    let due-role = (and_parts (eqb r 0) (table_fits (said fs).events n q a) few).0 in
-    subst (λ t. Shape (cond t PlantSteps SpecSteps) (table r n q a ∷ fs)) (sym due-role)
-    ([], table r n q a ∷ fs, refl, tt, (table r n q a, fs, refl, (n, q, a, ap (λ k. table k n q a) (eqb-true r 0 due-role)), h))
-shape_more PlantTable (step r p e q) fs is-due few h = absurd (false≢true is-due)
-shape_more PlantTable (counter u d l) fs is-due few h = absurd (false≢true is-due)
-shape_more PlantTable (play e) fs is-due few h = absurd (false≢true is-due)
-shape_more PlantSteps (header e n m) fs is-due few h = absurd (false≢true is-due)
-shape_more PlantSteps (site j a b) fs is-due few h = absurd (false≢true is-due)
-shape_more PlantSteps (table r n q a) fs is-due few h =
+shape_more (Site i) (table r n q a) fs is_due few h = absurd (false≢true is_due)
+shape_more (Site i) (step r p e q) fs is_due few h = absurd (false≢true is_due)
+shape_more (Site i) (counter u d l) fs is_due few h = absurd (false≢true is_due)
+shape_more (Site i) (play e) fs is_due few h = absurd (false≢true is_due)
+shape_more PlantTable (header e n m) fs is_due few h = absurd (false≢true is_due)
+shape_more PlantTable (site j a b) fs is_due few h = absurd (false≢true is_due)
+shape_more PlantTable (table r n q a) fs is_due few h =
+    let due_role = (and_parts (eqb r 0) (table_fits (said fs).events n q a) few).0 in
+    subst (λ t. Shape (cond t PlantSteps SpecSteps) (table r n q a ∷ fs)) (sym due_role)
+    ([], table r n q a ∷ fs, refl, tt, (table r n q a, fs, refl, (n, q, a, ap (λ k. table k n q a) (eqb-true r 0 due_role)), h))
+shape_more PlantTable (step r p e q) fs is_due few h = absurd (false≢true is_due)
+shape_more PlantTable (counter u d l) fs is_due few h = absurd (false≢true is_due)
+shape_more PlantTable (play e) fs is_due few h = absurd (false≢true is_due)
+shape_more PlantSteps (header e n m) fs is_due few h = absurd (false≢true is_due)
+shape_more PlantSteps (site j a b) fs is_due few h = absurd (false≢true is_due)
+shape_more PlantSteps (table r n q a) fs is_due few h =
     let one = eqb-true r 1 (and_parts (eqb r 1) (table_fits (said fs).events n q a) few).0 in
     subst (λ k. Shape (cond (eqb k 0) PlantSteps SpecSteps) (table r n q a ∷ fs)) (sym one)
     ([], table r n q a ∷ fs, refl, tt, (table r n q a, fs, refl, (n, q, a, ap (λ k. table k n q a) one), inl h))
-shape_more PlantSteps (step r p e q) fs is-due few h =
+shape_more PlantSteps (step r p e q) fs is_due few h =
     let (new, old, is, each, rest) = h in
-    let zero-role = eqb-true r 0 (and_parts (eqb r 0) (step_fits (table_named (said fs) r) p e q) few).0 in
-    (step r p e q ∷ new, old, ap (λ l. step r p e q ∷ l) is, ((p, e, q, ap (λ k. step k p e q) zero-role), each), rest)
-shape_more PlantSteps (counter u d l) fs is-due few h =
+    let zero_role = eqb-true r 0 (and_parts (eqb r 0) (step_fits (table_named (said fs) r) p e q) few).0 in
+    (step r p e q ∷ new, old, ap (λ l. step r p e q ∷ l) is, ((p, e, q, ap (λ k. step k p e q) zero_role), each), rest)
+shape_more PlantSteps (counter u d l) fs is_due few h =
     (counter u d l, fs, refl, (u, d, l, refl), h)
-shape_more PlantSteps (play e) fs is-due few h = absurd (false≢true is-due)
-shape_more SpecTable (header e n m) fs is-due few h = absurd (false≢true is-due)
-shape_more SpecTable (site j a b) fs is-due few h = absurd (false≢true is-due)
-shape_more SpecTable (table r n q a) fs is-due few h =
+shape_more PlantSteps (play e) fs is_due few h = absurd (false≢true is_due)
+shape_more SpecTable (header e n m) fs is_due few h = absurd (false≢true is_due)
+shape_more SpecTable (site j a b) fs is_due few h = absurd (false≢true is_due)
+shape_more SpecTable (table r n q a) fs is_due few h =
     let one = eqb-true r 1 (and_parts (eqb r 1) (table_fits (said fs).events n q a) few).0 in
     subst (λ k. Shape (cond (eqb k 0) PlantSteps SpecSteps) (table r n q a ∷ fs)) (sym one)
     ([], table r n q a ∷ fs, refl, tt, (table r n q a, fs, refl, (n, q, a, ap (λ k. table k n q a) one), inr h))
-shape_more SpecTable (step r p e q) fs is-due few h = absurd (false≢true is-due)
-shape_more SpecTable (counter u d l) fs is-due few h = absurd (false≢true is-due)
-shape_more SpecTable (play e) fs is-due few h = absurd (false≢true is-due)
-shape_more SpecSteps (header e n m) fs is-due few h = absurd (false≢true is-due)
-shape_more SpecSteps (site j a b) fs is-due few h = absurd (false≢true is-due)
-shape_more SpecSteps (table r n q a) fs is-due few h = absurd (false≢true is-due)
-shape_more SpecSteps (step r p e q) fs is-due few h =
+shape_more SpecTable (step r p e q) fs is_due few h = absurd (false≢true is_due)
+shape_more SpecTable (counter u d l) fs is_due few h = absurd (false≢true is_due)
+shape_more SpecTable (play e) fs is_due few h = absurd (false≢true is_due)
+shape_more SpecSteps (header e n m) fs is_due few h = absurd (false≢true is_due)
+shape_more SpecSteps (site j a b) fs is_due few h = absurd (false≢true is_due)
+shape_more SpecSteps (table r n q a) fs is_due few h = absurd (false≢true is_due)
+shape_more SpecSteps (step r p e q) fs is_due few h =
     let (new, old, is, each, rest) = h in
     let one = eqb-true r 1 (and_parts (eqb r 1) (step_fits (table_named (said fs) r) p e q) few).0 in
     (step r p e q ∷ new, old, ap (λ l. step r p e q ∷ l) is, ((p, e, q, ap (λ k. step k p e q) one), each), rest)
-shape_more SpecSteps (counter u d l) fs is-due few h = absurd (false≢true is-due)
-shape_more SpecSteps (play e) fs is-due few h =
+shape_more SpecSteps (counter u d l) fs is_due few h = absurd (false≢true is_due)
+shape_more SpecSteps (play e) fs is_due few h =
     (play e ∷ [], fs, refl, ((e, refl), tt), h)
-shape_more Plays (header e n m) fs is-due few h = absurd (false≢true is-due)
-shape_more Plays (site j a b) fs is-due few h = absurd (false≢true is-due)
-shape_more Plays (table r n q a) fs is-due few h = absurd (false≢true is-due)
-shape_more Plays (step r p e q) fs is-due few h = absurd (false≢true is-due)
-shape_more Plays (counter u d l) fs is-due few h = absurd (false≢true is-due)
-shape_more Plays (play e) fs is-due few h =
+shape_more Plays (header e n m) fs is_due few h = absurd (false≢true is_due)
+shape_more Plays (site j a b) fs is_due few h = absurd (false≢true is_due)
+shape_more Plays (table r n q a) fs is_due few h = absurd (false≢true is_due)
+shape_more Plays (step r p e q) fs is_due few h = absurd (false≢true is_due)
+shape_more Plays (counter u d l) fs is_due few h = absurd (false≢true is_due)
+shape_more Plays (play e) fs is_due few h =
     let (new, old, is, each, rest) = h in (play e ∷ new, old, ap (λ l. play e ∷ l) is, ((e, refl), each), rest)
 
 pub sound_shape : (fs : List Frame) → Sound fs → Shape (stage fs) fs

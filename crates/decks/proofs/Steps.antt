@@ -72,12 +72,12 @@ taken_more text t number rest t' after so_far h =
     let (f, read, none, then) = taken_ok (state_of fs) number (read_frame rest number) t' after (ap (λ s. next s rest number) (sym so_far.now) ∙ h) in
     let (l, found, is) = of_line_ok number (first_line rest number) f after read in
     let begins = line_found rest number l after found in
-    let (is-due, few, one) = no_fault (due (stage fs) f) (in_range (stage fs) (said fs) f) (second (said fs) f) (SecondStep number) (OutOfRange number) (NotDue number) none in
+    let (is_due, few, one) = no_fault (due (stage fs) f) (in_range (stage fs) (said fs) f) (second (said fs) f) (SecondStep number) (OutOfRange number) (NotDue number) none in
     let long : length rest ≡ length l + suc (length after) = ap length begins.1 ∙ length-append l (line_feed ∷ after) in
     record {
       frames = f ∷ fs;
       spelt = (rest, so_far.spelt, (l, begins, frame_any l number f is));
-      sound = (so_far.sound, record { due = is-due; in_range = few; first_step = one });
+      sound = (so_far.sound, record { due = is_due; in_range = few; first_step = one });
       now = sym then;
       count = omega (arith, so_far.count);
       left = omega (arith, so_far.left);

@@ -6,3 +6,4 @@ pub mod Counters
 pub mod Products
 pub mod Bits
 pub mod Joins
+pub mod Laws

@@ -1,9 +1,7 @@
 // A counter: one event counts up to a limit, another counts down to 0.
 ghost use Rattle.std.specs.Prelude.{◌≡◌};
 ghost use Rattle.plants.specs.Counters.{counter, counts};
-ghost use Rattle.std.proofs.Common.{rules, arith};
-ghost use Rattle.std.proofs.lemmas.Bool.Decides.{nat_tests};
-ghost use Rattle.plants.specs.Bits.{bit-or, bit_pow};
+ghost use Rattle.plants.specs.Laws.{counter_lawful};
 
 use crate::masks::singleton;
 use crate::plant::{EVENTS, Event, MOST_STATES, Mask, Plant, State};
@@ -33,16 +31,7 @@ impl Counter {
 impl Plant for Counter {
     ghost meaning = { λ c. counter c.up c.down c.limit };
 
-    ghost lawful = { λ x.
-        record {
-          few = Prim.search rules;
-          void_first = Prim.search rules;
-          void_alphabet = Prim.search rules;
-          first_within = Prim.search rules;
-          from_within = Prim.search rules;
-          on_known = Prim.grind (arith, nat_tests, bit-or, bit_pow);
-          to_within = Prim.search rules;
-        } };
+    ghost lawful = { λ c. counter_lawful c.up c.down c.limit };
 
     fn count(&self) -> State {
         if self.is_sound() { self.limit + 1 } else { 0 }

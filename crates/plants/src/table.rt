@@ -1,8 +1,8 @@
 // A table: a byte for each state and event.
-ghost use Rattle.std.specs.Prelude.{◌≡◌, ℕ, ◌<◌, true, false, is_ok, IfOk};
+ghost use Rattle.std.specs.Prelude.{◌≡◌, ℕ, ◌<◌, true, false, is_ok, vec_items, IfOk};
 ghost use Rattle.plants.specs.Masks.{bit, width};
 ghost use Rattle.plants.specs.Tables.{admits, blank, fits, means, table, with_step};
-ghost use Rattle.std.proofs.Common.{rules};
+ghost use Rattle.plants.specs.Laws.{table_lawful};
 
 use crate::masks::contains;
 use crate::plant::{EVENTS, Event, MOST_STATES, Mask, Plant, State};
@@ -92,7 +92,7 @@ fn empty_row(heap: Global, count: State) -> Result<Vec<u8>, AllocError>
 impl Plant for Table {
     ghost meaning = { means };
 
-    ghost lawful = { Prim.search rules };
+    ghost lawful = { λ t. table_lawful t.count t.first t.alphabet (vec_items t.row) };
 
     fn count(&self) -> State {
         if self.is_sound() { self.count } else { 0 }

@@ -88,17 +88,17 @@ module _ (w : System) (keeps : Keeps w) (few : w.setup.sites ≤ 4) where
   settles {s = s} on voted (Err x) is =
       let run = on.kept.running on.started in
       ⊎_elim (λ done. done)
-      (λ open-yet. absurd (no_ok (sym is ∙ grants (settle_gates w s) (fused w s) (on.started, (run.counts, (ap not open-yet, (voted, tt)))))))
+      (λ open_yet. absurd (no_ok (sym is ∙ grants (settle_gates w s) (fused w s) (on.started, (run.counts, (ap not open_yet, (voted, tt)))))))
       (cases_Bool (settled_in s.round))
 
   pub ready_open : {u : List ℕ} {b : Bool} {s : Status} → Open u b s → Open u true (ready w s)
   unfolding ready
   ready_open {u} {b} {s} on =
       let t = cast_to w s w.setup.sites in
-      let asked-all = cast_to_open w.setup.sites on in
-      let after = step_kept w keeps few asked-all.kept Settle (Allowed (settling w t)) (settle w t) (refl, refl) in
-      let round = after.rounds ∙ settles asked-all (all_asked on) (settling w t) refl in
+      let asked_all = cast_to_open w.setup.sites on in
+      let after = step_kept w keeps few asked_all.kept Settle (Allowed (settling w t)) (settle w t) (refl, refl) in
+      let round = after.rounds ∙ settles asked_all (all_asked on) (settling w t) refl in
       record {
         kept = subst (λ x. Kept w u x (settle w t)) round after;
-        started = settle_started t (settling w t) ∙ asked-all.started;
+        started = settle_started t (settling w t) ∙ asked_all.started;
       }

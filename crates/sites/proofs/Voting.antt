@@ -36,11 +36,11 @@ module _ (w : System) (i m e : ℕ) where
   pub vote_by_kind : (mode : Mode) (legal bad yes : Bool) → w.setup.controls i e ≡ true → mode ≡ mode_of (w.setup.disjunctive e) → legal ≡ some_below w (pairs w) m e is_legal
       → bad ≡ some_below w (pairs w) m e is_bad → (mode ≡ Conjunctive → yes ≡ legal) → (mode ≡ Disjunctive → yes ≡ (not (eqb m 0) && not bad)) → yes ≡ vote w i m e
   unfolding vote
-  vote_by_kind mode legal bad said own kind is-l is_b conjunctive disjunctive =
+  vote_by_kind mode legal bad said own kind is_l is_b conjunctive disjunctive =
       let sure : Bool = not (eqb m 0) && not (some_below w (pairs w) m e is_bad) in
       let some : Bool = some_below w (pairs w) m e is_legal in
       let by_kind : vote w i m e ≡ cond (w.setup.disjunctive e) sure some = ap (λ c. c && cond (w.setup.disjunctive e) sure some) own in
       ⊎_elim
       (λ d. disjunctive (kind ∙ ap mode_of d) ∙ ap (λ b. not (eqb m 0) && not b) is_b ∙ sym (by_kind ∙ cond-true (w.setup.disjunctive e) sure some d))
-      (λ c. conjunctive (kind ∙ ap mode_of c) ∙ is-l ∙ sym (by_kind ∙ cond-false (w.setup.disjunctive e) sure some c))
+      (λ c. conjunctive (kind ∙ ap mode_of c) ∙ is_l ∙ sym (by_kind ∙ cond-false (w.setup.disjunctive e) sure some c))
       (cases_Bool (w.setup.disjunctive e))

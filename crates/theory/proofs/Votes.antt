@@ -31,8 +31,8 @@ choose c P has = ((λ i. pick i (c i) refl), λ i h. right i h (c i) refl)
     pick i false h = []
 
     right : (i : ℕ) → c i ≡ true → (b : Bool) (h : c i ≡ b) → P i (pick i b h)
-    right i Has-one true h = (has i h).1
-    right i Has-one false h = absurd (both_ways (c i) h Has-one)
+    right i has_one true h = (has i h).1
+    right i has_one false h = absurd (both_ways (c i) h has_one)
 
 legal_is : (o : PairStep) → is_legal o ≡ true → (y : Pair) × (o ≡ To y)
 legal_is NoStep h = absurd (false≢true h)

@@ -46,7 +46,7 @@ gets text x w answer tells made same answered cells cells' trace trace' replies 
     let other = ap makes (tells_once text x y tells also) in
     let z : ◌≡◌ {A = ℕ} 0 1 = cc in
     absurd (omega arith)
-gets text x w answer tells made same answered cells cells' trace trace' replies many long (checked y r also makes-it h past) =
+gets text x w answer tells made same answered cells cells' trace trace' replies many long (checked y r also makes_it h past) =
     let is = tells_once text y x also tells in
     let here = subst (λ v. Checked v cells cells' (take 256 trace) (take 256 trace') r) (ap said_system is ∙ same) h in
     ap (λ z. text_of (check_replies (said_system z) trace' z.plays r)) is

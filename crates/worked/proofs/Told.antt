@@ -6,7 +6,7 @@ use Rattle.frames.specs.Digits.{pair_at}
 use Rattle.frames.specs.Frames.{Frame, header, site, table, step, play}
 use Rattle.decks.specs.Decks.{Tells}
 use Rattle.decks.specs.Said.{Said, said}
-use Rattle.worked.specs.Cases.{header as header-line, controllers, no_controllers, plant_lines, spec_lines, early_lines, plays, worked_deck, early_deck, uncontrolled_deck}
+use Rattle.worked.specs.Cases.{header as header_line, controllers, no_controllers, plant_lines, spec_lines, early_lines, plays, worked_deck, early_deck, uncontrolled_deck}
 use Rattle.worked.proofs.Reading.{read_tells}
 
 -- the sites and the plant, by the modes and the events that both sites control
@@ -39,18 +39,18 @@ modes b = cond b 4 0
 -- each deck tells it
 pub worked_tells : (b : Bool) → Tells (worked_deck b []) (worked_said (modes b) 4)
 unfolding pair_at bit
-worked_tells true = read_tells (header-line true ∷ controllers ++ (plant_lines ++ (spec_lines ++ []))) (worked_frames 4 4) refl refl refl
-worked_tells false = read_tells (header-line false ∷ controllers ++ (plant_lines ++ (spec_lines ++ []))) (worked_frames 0 4) refl refl refl
+worked_tells true = read_tells (header_line true ∷ controllers ++ (plant_lines ++ (spec_lines ++ []))) (worked_frames 4 4) refl refl refl
+worked_tells false = read_tells (header_line false ∷ controllers ++ (plant_lines ++ (spec_lines ++ []))) (worked_frames 0 4) refl refl refl
 
 pub played_tells : Tells (worked_deck true plays) played_said
 unfolding pair_at bit
-played_tells = read_tells (header-line true ∷ controllers ++ (plant_lines ++ (spec_lines ++ plays))) (play 2 ∷ play 0 ∷ play 2 ∷ worked_frames 4 4) refl refl refl
+played_tells = read_tells (header_line true ∷ controllers ++ (plant_lines ++ (spec_lines ++ plays))) (play 2 ∷ play 0 ∷ play 2 ∷ worked_frames 4 4) refl refl refl
 
 pub early_tells : (b : Bool) → Tells (early_deck b) (early_said (modes b) 4)
 unfolding pair_at bit
-early_tells true = read_tells (header-line true ∷ controllers ++ (plant_lines ++ early_lines)) (early_frames 4 4) refl refl refl
-early_tells false = read_tells (header-line false ∷ controllers ++ (plant_lines ++ early_lines)) (early_frames 0 4) refl refl refl
+early_tells true = read_tells (header_line true ∷ controllers ++ (plant_lines ++ early_lines)) (early_frames 4 4) refl refl refl
+early_tells false = read_tells (header_line false ∷ controllers ++ (plant_lines ++ early_lines)) (early_frames 0 4) refl refl refl
 
 pub uncontrolled_tells : Tells uncontrolled_deck (worked_said 0 0)
 unfolding pair_at bit
-uncontrolled_tells = read_tells (header-line false ∷ no_controllers ++ (plant_lines ++ spec_lines)) (worked_frames 0 0) refl refl refl
+uncontrolled_tells = read_tells (header_line false ∷ no_controllers ++ (plant_lines ++ spec_lines)) (worked_frames 0 0) refl refl refl

@@ -36,8 +36,8 @@ uncontrolled = record {
 
 -- whatever cells and trace hold, a check with at least so many cells and so long a trace answers this
 abbrev pub Answers : System → ℕ → ℕ → Result Verdict Unchecked → Type 0
-Answers w cell-count trace-length answer =
-    (cells cells' : List ℕ) (trace trace' : List Move) (r : Result Verdict Unchecked) → cell-count ≤ length cells → trace-length ≤ length trace → Checked w cells cells' trace trace' r → r ≡ answer
+Answers w cell_count trace_length answer =
+    (cells cells' : List ℕ) (trace trace' : List Move) (r : Result Verdict Unchecked) → cell_count ≤ length cells → trace_length ≤ length trace → Checked w cells cells' trace trace' r → r ≡ answer
 
 -- What check answers.
 pub record ChecksAnswer : Type 0 where

@@ -1,4 +1,4 @@
-use Rattle.std.proofs.Common.{length, drop, ◌∙◌}
+use Rattle.std.proofs.Common.{rules, length, drop, ◌∙◌}
 use Rattle.std.proofs.lemmas.Result.{err_from_is_err_and}
 use Rattle.replies.specs.Lines.{text_of}
 use Rattle.fuse.proofs.Fronts.{within, refilled_front}
@@ -35,3 +35,7 @@ returns-in-Ok c =
       stays_legal = ran.stays_legal;
       written = c.truncate.ensures.items ∙ front ∙ ran.front;
     }
+
+-- a last try of other tactics runs out of memory where this is false
+pub returns : goal.returns
+returns c = search rules

@@ -197,11 +197,20 @@ tells_or_faulty text x why h k =
 pub told_of : (text : List ℕ) (d : Deck) → Whole text d → Tells text (says d)
 told_of text d h = record { few = h.few; frames = h.frames; spelt = h.spelt; sound = h.sound; in_order = h.in_order; done = h.done; yields = h.yields }
 
+whole_once : (text : List ℕ) (d e : Deck) → Whole text d → Whole text e → says d ≡ says e
+whole_once text d e a b = tells_once text (says d) (says e) (told_of text d a) (told_of text e b)
+
+whole_or_broken : (text : List ℕ) (d : Deck) (why : Fault) → Whole text d → Broken text why → ⊥
+whole_or_broken text d why a b = tells_or_broken text (says d) why (told_of text d a) b
+
+whole_or_faulty : (text : List ℕ) (d : Deck) (why : Fault) → Whole text d → Reads text (Err (Faulty why)) → ⊥
+whole_or_faulty text d why h k = tells_or_faulty text (says d) why (told_of text d h) k
+
 pub reads_once : (text : List ℕ) (r s : Result Deck Unread) → Reads text r → Reads text s → Agree r s
-reads_once text (Ok d) (Ok e) h k = tells_once text (says d) (says e) (told_of text d h) (told_of text e k)
-reads_once text (Ok d) (Err (Faulty why)) h k = tells_or_faulty text (says d) why (told_of text d h) k
+reads_once text (Ok d) (Ok e) h k = whole_once text d e h k
+reads_once text (Ok d) (Err (Faulty why)) h k = whole_or_faulty text d why h k
 reads_once text (Ok d) (Err OutOfMemory) h k = tt
-reads_once text (Err (Faulty why)) (Ok e) h k = tells_or_faulty text (says e) why (told_of text e k) h
+reads_once text (Err (Faulty why)) (Ok e) h k = whole_or_faulty text e why k h
 reads_once text (Err (Faulty why)) (Err (Faulty other)) h k = faulty_once text why other h k
 reads_once text (Err (Faulty why)) (Err OutOfMemory) h k = tt
 reads_once text (Err OutOfMemory) s h k = tt

@@ -1,7 +1,6 @@
 -- Taking lines and decks off the front of a listing. A line ends at the first line feed; a deck is as long as the number
--- before it says; and what is left is shorter than what there was, since at least a line feed went. The replies that are
--- printed are a front of the output.
-use Rattle.std.proofs.Common.{◌≡◌, ℕ, suc, ◌+◌, ◌-◌, ◌<◌, ◌≤◌, List, ◌∷◌, ◌++◌, length, get_or, take, drop, sym, ap, ◌∙◌, add-one, arith, length-append, length-drop, take-append-drop, length-take, take_all, get_or-take}
+-- before it says; and what is left is shorter than what there was, since at least a line feed went.
+use Rattle.std.proofs.Common.{◌≡◌, ℕ, suc, ◌+◌, ◌-◌, ◌<◌, List, ◌∷◌, ◌++◌, length, get_or, take, drop, sym, ap, ◌∙◌, add-one, arith, length-append, length-drop, take-append-drop, length-take, take_all, get_or-take}
 use lib.Seq.{split_at}
 use Rattle.cases.specs.Listings.{Entry, Line, NoFeed}
 
@@ -37,11 +36,4 @@ shorter listing name deck rest e =
     let first = length-append name (10 ∷ (e.digits ++ 10 ∷ (deck ++ 10 ∷ rest))) in
     let second = length-append e.digits (10 ∷ (deck ++ 10 ∷ rest)) in
     let third = length-append deck (10 ∷ rest) in
-    omega arith
-
--- a front that is as long as it says is within the list that it is the front of
-pub within_output : (n : ℕ) (out front : List ℕ) → take n out ≡ front → n ≡ length front → n ≤ length out
-within_output n out front e count =
-    let cut = length-take n out in
-    let same = ap length e in
     omega arith

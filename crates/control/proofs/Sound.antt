@@ -5,7 +5,7 @@
 use Rattle.std.proofs.Common.{◌≡◌, ℕ, zero, suc, ◌-◌, ◌^◌, ◌<◌, ◌≤◌, Bool, true, false, ◌&&◌, ◌||◌, leb, ◌⊎◌, List, get_or, sym, refl, ap, ◌∙◌, inl, inr, ⊎_elim, arith, eqb-true, le-leb, leb-true}
 use lib.Bits.{bit_or}
 use borrow.Author.Tests.{both_ways}
-use Rattle.std.proofs.str.Laws.{order}
+use Rattle.std.proofs.lemmas.Bool.{cases_lt}
 use Rattle.plants.specs.Masks.{bit}
 use Rattle.plants.specs.Bits.{bit_high, bit-or, bit_zero}
 use Rattle.control.specs.Ranges.{Rows, in_rows, most_sites, union, within}
@@ -15,7 +15,7 @@ use Rattle.control.specs.declared.problem.Problem.{Problem}
 
 -- a bit of a mask below 2 ^ k stands below k
 bit_below : (m k e : ℕ) → m < 2 ^ k → bit m e ≡ true → e < k
-bit_below m k e small is = ⊎_elim (λ h. h) (λ past. absurd (both_ways (bit m e) (bit_high m k e small past) is)) (order e k)
+bit_below m k e small is = ⊎_elim (λ h. h) (λ past. absurd (both_ways (bit m e) (bit_high m k e small past) is)) (cases_lt e k)
 
 and_parts : (a b : Bool) → (a && b) ≡ true → (a ≡ true) × (b ≡ true)
 and_parts true true h = (refl, refl)
@@ -32,7 +32,7 @@ in_range events sites rows ok i e is =
     let (some, has) = and_parts (leb 1 i) (bit (get_or rows (i - 1) 0) e) is in
     let first = leb-true 1 i some in (
       first,
-      ⊎_elim (λ past. absurd (both_ways (bit (get_or rows (i - 1) 0) e) (ap (λ m. bit m e) (ok.1 (i - 1) (omega arith)) ∙ bit_zero e) has)) (λ h. h) (order sites i),
+      ⊎_elim (λ past. absurd (both_ways (bit (get_or rows (i - 1) 0) e) (ap (λ m. bit m e) (ok.1 (i - 1) (omega arith)) ∙ bit_zero e) has)) (λ h. h) (cases_lt sites i),
       bit_below (get_or rows (i - 1) 0) events e (ok.0 (i - 1)) has,
     )
 

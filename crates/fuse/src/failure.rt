@@ -1,6 +1,7 @@
 // Why no replies are written.
-ghost use Rattle.std.specs.Prelude.{Some};
+ghost use Rattle.std.specs.Prelude.{◌≡◌, Some};
 ghost use Rattle.fuse.specs.Lines.{line};
+ghost use Rattle.fuse.specs.declared.failure.Failure.TheVariants.{Running};
 
 use std::alloc::AllocError;
 use std::fmt;
@@ -26,6 +27,8 @@ impl fmt::Display for Failure {
 }
 
 impl From<AllocError> for Failure {
+    ghost from_gives = { λ _ r. r ≡ Running };
+
     fn from(_: AllocError) -> Failure {
         Failure::Running
     }

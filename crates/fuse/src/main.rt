@@ -5,7 +5,7 @@
 
 mod failure;
 
-ghost use Rattle.std.specs.Prelude.{IfOk};
+ghost use Rattle.std.specs.Prelude.{◌≡◌, MatchResult};
 ghost use Rattle.fuse.specs.Answers.{Answers};
 
 use decks::MOST_BYTES;
@@ -34,9 +34,9 @@ fn read_deck(rt: &HostRuntime) -> io::Result<Vec<u8>> {
     Ok(text)
 }
 
-// The replies to a deck.
+// The replies to a deck. Want of memory is the one failure here.
 fn replies_to(heap: Global, text: &[u8]) -> Result<Vec<u8>, Failure>
-    ensures { IfOk result (λ replies. Answers text.now replies.items) }
+    ensures { MatchResult result (λ replies. Answers text.now replies.items) (λ failure. failure ≡ Failure.Running) }
 {
     let mut cells = vec![in heap; 0; CELLS]?;
     let mut trace = vec![in heap; BLANK; RECORDS]?;

@@ -2,16 +2,13 @@
 -- computation with quotients by powers of two, and the union goes bit by bit through the logic's `bit_or`. At the end, how a
 -- mask is built from a test, one number after the other.
 -- Assumes nothing.
-use Rattle.std.specs.Prelude.{◌≡◌, ℕ, zero, suc, ◌+◌, ◌-◌, ◌*◌, ◌/◌, ◌%◌, ◌^◌, ◌<◌, ◌≤◌, Bool, true, false, cond, ◌||◌, ◌⊎◌, ◌==◌, nat_eq, refl}
-use Rattle.std.proofs.Common.{sym, ap, ◌∙◌, inl, inr, ⊎_elim, pow-suc, lt_of_lt_of_le, add-one, arith, pow_mono, pow_pos, pow-add, eq-eqb, ne_eqb}
+use Rattle.std.specs.Prelude.{◌≡◌, ℕ, zero, suc, ◌+◌, ◌-◌, ◌*◌, ◌/◌, ◌%◌, ◌^◌, ◌<◌, ◌≤◌, Bool, true, false, cond, ◌||◌, ◌==◌, nat_eq, refl}
+use Rattle.std.proofs.Common.{sym, ap, ◌∙◌, ⊎_elim, pow-suc, lt_of_lt_of_le, add-one, arith, pow_mono, pow_pos, pow-add, eq-eqb, ne_eqb}
 use Rattle.std.proofs.Math.Nat.{zero-div, div-eq_of_lt, div_self, mul-mod_left}
 use Rattle.std.specs.Int.Bits.{bit_or}
 use Rattle.std.proofs.lemmas.Nat.{shl-shr, pow_below, mod_below, or_shr, or_mod}
 use Rattle.std.proofs.lemmas.Bool.{cases_order}
 use Rattle.plants.specs.Masks.{bit, mask_of}
-
-order : (m n : ℕ) → (m < n) ⊎ (n ≤ m)
-order m n = ⊎_elim (λ same. inr (omega arith)) (λ apart. ⊎_elim (λ low. inl low) (λ high. inr (omega arith)) apart) (cases_order m n)
 
 pub bit_zero : (k : ℕ) → bit 0 k ≡ false
 unfolding bit
@@ -37,14 +34,12 @@ bit_pow_same k = ap (λ q. nat_eq (q % 2) 1) (div_self (pow_pos k))
 -- the mask of k alone
 pub bit_pow : (k j : ℕ) → bit (2 ^ k) j ≡ (j == k)
 bit_pow k j =
+    ⊎_elim (λ same. ap (bit (2 ^ k)) same ∙ bit_pow_same k ∙ sym (eq-eqb j k same))
+    (λ apart.
     ⊎_elim (λ lower. bit_pow_low k j lower ∙ sym (ne_eqb j k (λ e. omega arith)))
-    (λ higher.
-    ⊎_elim (λ above. bit_high (2 ^ k) (suc k) j (pow_below k (suc k) (omega arith)) above ∙ sym (ne_eqb j k (λ e. omega arith)))
-    (λ most.
-    let same : j ≡ k = omega arith in
-    ap (bit (2 ^ k)) same ∙ bit_pow_same k ∙ sym (eq-eqb j k same))
-    (order k j))
-    (order j k)
+    (λ above. bit_high (2 ^ k) (suc k) j (pow_below k (suc k) (omega arith)) above ∙ sym (ne_eqb j k (λ e. omega arith)))
+    apart)
+    (cases_order j k)
 
 -- a remainder by two is 0 or 1
 bits_or : (a b : ℕ) → a < 2 → b < 2 → (bit_or a b == 1) ≡ (a == 1 || b == 1)

@@ -3,7 +3,7 @@ ghost use Rattle.std.specs.Prelude.{◌≡◌, ◌≤◌, not, ◌&&◌, IfSome,
 ghost use Rattle.control.specs.Problems.{setup};
 ghost use Rattle.control.specs.Systems.{system};
 ghost use Rattle.control.specs.declared.problem.Mode.TheVariants.{Conjunctive, Disjunctive};
-ghost use Rattle.theory.specs.Estimates.{is_bad, is_legal, pairs, vote as vote-of};
+ghost use Rattle.theory.specs.Estimates.{is_bad, is_legal, pairs, vote as vote_of};
 ghost use Rattle.sites.specs.Sites.{VotesBySight, most_pairs, some_below, vote_mask, where_room};
 
 use crate::pairs::{PairSet, holds, pair_count};
@@ -60,7 +60,7 @@ fn says_yes<P: Plant, S: Plant>(
 ) -> bool
     requires all { count ≡ pairs (system (setup problem.now) (P.Plant.meaning plant.now) (S.Plant.meaning spec.now)) }
     requires room { count ≤ most_pairs }
-    ensures { result ≡ vote-of (system (setup problem.now) (P.Plant.meaning plant.now) (S.Plant.meaning spec.now)) site estimate event }
+    ensures { result ≡ vote_of (system (setup problem.now) (P.Plant.meaning plant.now) (S.Plant.meaning spec.now)) site estimate event }
 {
     problem.controls(site, event)
         && steps_in(problem, plant, spec, count, estimate, event).agree(

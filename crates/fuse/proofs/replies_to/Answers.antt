@@ -1,18 +1,6 @@
-use Rattle.std.proofs.Common.{rules, length, drop, ◌∙◌}
-use Rattle.std.proofs.lemmas.Result.{err_from_is_err_and}
-use Rattle.replies.specs.Lines.{text_of}
-use Rattle.fuse.proofs.Fronts.{within, refilled_front}
+use Rattle.std.proofs.Common.{◌≤◌, rules, length, drop, ap, ◌∙◌, arith, length-take}
+use Rattle.fuse.proofs.Fronts.{refilled_front}
 use Rattle.fuse.proofs.replies_to.Goals as goal
-
-pub returns-in_err-trace : goal.returns-in_err-trace
-returns-in_err-trace c =
-    let p = err_from_is_err_and c.from_residual-in_err-trace.result c.from_residual-in_err-trace.ensures.1 in
-    rw p.1 tt
-
-pub returns-in_err-out : goal.returns-in_err-out
-returns-in_err-out c =
-    let p = err_from_is_err_and c.from_residual-in_err-out.result c.from_residual-in_err-out.ensures.1 in
-    rw p.1 tt
 
 pub returns-in-Ok : goal.returns-in-Ok
 returns-in-Ok c =
@@ -20,7 +8,7 @@ returns-in-Ok c =
     let count = c.in-Ok.count in
     let before = c.in_ok-out.out in
     let after = c.run.new.out in
-    let long = within count after (text_of ran.replies) ran.front ran.count in
+    let long : count ≤ length after = omega (arith, length-take count after, ap length ran.front, ran.count) in
     let same_length = ran.same_length ∙ c.deref_mut-3.ensures.len in
     let front = refilled_front count before.len after (drop (length after) before.items) long same_length in
     record {
@@ -36,6 +24,6 @@ returns-in-Ok c =
       written = c.truncate.ensures.items ∙ front ∙ ran.front;
     }
 
--- a last try of other tactics runs out of memory where this is false
+-- by search alone: where this is false, the tactics that the check tries last run out of memory
 pub returns : goal.returns
 returns c = search rules

@@ -5,8 +5,9 @@
 
 #![tactic(auto)]
 
-use checking::{Refusal, Verdict, cells_for, check};
-use control::Problem;
+use checking::{Verdict, cells_for, check};
+use control::{Arrangement, Problem};
+use pairs::Numbered;
 use plants::{Counter, Product};
 use search::Graph;
 use std::io;
@@ -37,13 +38,7 @@ fn plant() -> Product<Counter, Counter> {
 }
 
 fn met(cells: &[u64]) -> usize {
-    let mut count = 0;
-    for cell in cells {
-        if *cell >= MET {
-            count += 1;
-        }
-    }
-    count
+    cells.iter().filter(|cell| **cell >= MET).count()
 }
 
 fn main(rt: HostRuntime) -> io::Result<()> {
@@ -54,16 +49,17 @@ fn main(rt: HostRuntime) -> io::Result<()> {
         down: 0,
         limit: 0,
     };
+    let arrangement = Arrangement::new(&problem, &plant, &free);
     let mut cells = vec![in rt.alloc(); 0; cells_for(&problem, 64)]?;
-    match check(&problem, &plant, &free, &mut cells, &mut []) {
+    match check(&arrangement, &mut cells, &mut []) {
         Ok(Verdict::Clear) => println!(rt; "The check is clear.")?,
         Ok(Verdict::Clash(event, _)) => println!(rt; "There is a clash at event {event}.")?,
         Err(_) => println!(rt; "The check is refused.")?,
     }
     let count = met(&cells);
     println!(rt; "For the last event {count} tuples were met.")?;
-    if let Some(automaton) = Tuples::new(&problem, &plant, &free) {
-        let moves = automaton.moves();
+    if let Some(pairs) = Numbered::of(&arrangement) {
+        let moves = Tuples::new(&pairs).moves();
         println!(rt; "At each of them {moves} moves were tried.")?;
     }
     Ok(())

@@ -31,12 +31,8 @@ pub fn split_case(listing: &[u8]) -> Option<(Case<'_>, &[u8])>
 fn split_line(text: &[u8]) -> Option<(&[u8], &[u8])>
     ensures { MatchOption result (NoFeed text.now) (λ x. Line text.now x.0.now x.1.now) }
 {
-    for (place, byte) in text.iter().enumerate() {
-        if *byte == b'\n' {
-            return Some((&text[0..place], &text[place + 1..]));
-        }
-    }
-    None
+    let place = text.iter().position(|byte| *byte == b'\n')?;
+    Some((&text[..place], &text[place + 1..]))
 }
 
 // A number in decimal.

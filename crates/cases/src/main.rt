@@ -7,19 +7,13 @@ mod listing;
 ghost use Rattle.std.specs.Prelude.{◌≡◌, IfOk, vec_len};
 
 use listing::{Case, split_case};
-use run::{LEAST_OUTPUT, run};
+use run::{CELLS, LEAST_OUTPUT, RECORDS, run};
 use std::alloc::{AllocError, Global};
 use std::io;
 use std::io::{ErrorKind, Read, Write};
 use theory::Move;
 
 // What a run is lent.
-const CELLS: usize = 8_192;
-
-const RECORDS: usize = 256;
-
-const BLANK: Move = Move { event: 0, mover: 0 };
-
 #[derive(Drop)]
 struct Lent {
     cells: Vec<u64>,
@@ -32,7 +26,7 @@ fn lend(heap: Global) -> Result<Lent, AllocError>
 {
     Ok(Lent {
         cells: vec![in heap; 0; CELLS]?,
-        trace: vec![in heap; BLANK; RECORDS]?,
+        trace: vec![in heap; Move::default(); RECORDS]?,
         out: vec![in heap; 0; LEAST_OUTPUT]?,
     })
 }
@@ -64,6 +58,7 @@ fn answer(rt: &HostRuntime, case: Case<'_>, lent: &mut Lent) -> io::Result<()> {
 // Runs the decks of a listing.
 fn answer_all(rt: &HostRuntime, listing: &[u8]) -> io::Result<()> {
     let mut lent = lend(rt.alloc())?;
+    // Kept: an iterator of decks would have to end by hand at the first that is none, and is longer.
     let mut rest = listing;
     while !rest.is_empty() {
         let Some((case, after)) = split_case(rest) else {

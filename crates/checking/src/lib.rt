@@ -10,7 +10,8 @@ mod verdict;
 
 pub use asking::check;
 pub use sizes::cells_for;
-pub use tracing::{TooShort, component, takes_part};
+pub use tracing::{TooShort, component};
+pub use tuples::takes_part;
 pub use verdict::{Refusal, Verdict};
 
 #[cfg(test)]

@@ -1,6 +1,6 @@
 // The worked example: site 1 sees event 0, site 2 sees event 1, and both control event 2.
 use crate::{Refusal, TooShort, Verdict, check, component};
-use control::Problem;
+use control::{Arrangement, Problem};
 use plants::{Counter, Mask, Table};
 use std::alloc::Global;
 use std::test::Fail;
@@ -8,23 +8,17 @@ use theory::Move;
 
 const DISJUNCTIVE: Mask = 4;
 
-const BLANK: Move = Move { event: 0, mover: 0 };
-
 fn worked(modes: Mask, controlled: Mask) -> Result<Problem, Fail> {
     let mut problem = Problem::new();
-    match problem.make(3, 2, modes, [1, 2, 0, 0], [controlled, controlled, 0, 0]) {
-        Ok(()) => Ok(problem),
-        Err(_) => Err(Fail::new("no problem is made")),
-    }
+    problem.make(3, 2, modes, [1, 2, 0, 0], [controlled, controlled, 0, 0])?;
+    Ok(problem)
 }
 
 // Each step is a state, an event and the next state.
 fn table(heap: Global, count: u8, steps: &[[u8; 3]]) -> Result<Table, Fail> {
     let mut table = Table::empty(heap, count, 0, 7)?;
     for step in steps {
-        if table.put(step[0], step[1], step[2]).is_err() {
-            return Err(Fail::new("a step does not fit"));
-        }
+        table.put(step[0], step[1], step[2])?;
     }
     Ok(table)
 }
@@ -50,8 +44,9 @@ fn before(heap: Global) -> Result<Table, Fail> {
 fn verdict(heap: Global, problem: &Problem, spec: &Table) -> Result<Verdict, Fail> {
     let plant = plant(heap)?;
     let mut cells = vec![in heap; 7; 512]?;
-    let mut trace = [BLANK; 3];
-    Ok(check(problem, &plant, spec, &mut cells, &mut trace)?)
+    let mut trace = [Move::default(); 3];
+    let arrangement = Arrangement::new(problem, &plant, spec);
+    Ok(check(&arrangement, &mut cells, &mut trace)?)
 }
 
 #[test]
@@ -117,19 +112,23 @@ fn the_first_refusal_that_fits(rt: HostRuntime) {
         limit: 8,
     };
     assert_eq!(rt;
-        check(&problem, &void, &void, &mut [], &mut []),
+        check(&Arrangement::new(&problem, &void, &void), &mut [], &mut []),
         Err(Refusal::VoidPlant)
     );
     assert_eq!(rt;
-        check(&problem, &eight, &void, &mut [], &mut []),
+        check(&Arrangement::new(&problem, &eight, &void), &mut [], &mut []),
         Err(Refusal::VoidSpec)
     );
     assert_eq!(rt;
-        check(&problem, &eight, &nine, &mut [], &mut []),
+        check(&Arrangement::new(&problem, &eight, &nine), &mut [], &mut []),
         Err(Refusal::TooManyPairs)
     );
     assert_eq!(rt;
-        check(&problem, &eight, &eight, &mut [0; 63], &mut []),
+        check(
+            &Arrangement::new(&problem, &eight, &eight),
+            &mut [0; 63],
+            &mut []
+        ),
         Err(Refusal::TooFewCells)
     );
     assert_eq!(rt; Refusal::VoidPlant.number(), 11);

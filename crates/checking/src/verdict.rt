@@ -4,6 +4,7 @@ ghost use Rattle.checking.specs.Answers.{refusal_number};
 
 use plants::Event;
 
+// Kept: no clash is an answer that boxes may rely on, and `None` of an `Option` would say it by an absence.
 #[derive(Clone, Copy, PartialEq, Eq, Debug)]
 pub enum Verdict {
     // no event has a counterexample: some local rules generate exactly the legal strings
@@ -13,19 +14,19 @@ pub enum Verdict {
     Clash(Event, usize),
 }
 
-// Why a check is refused: the first that fits.
+// Why a check is refused, with the numbers of the refusals: the first that fits.
 #[derive(Clone, Copy, PartialEq, Eq, Debug)]
 pub enum Refusal {
     // the plant has no states
-    VoidPlant,
+    VoidPlant = 11,
     // the specification has no states
-    VoidSpec,
+    VoidSpec = 12,
     // the state counts multiply to more than 64
-    TooManyPairs,
+    TooManyPairs = 13,
     // fewer cells than pairs to the power m + 1, where m is the most controllers of one event
-    TooFewCells,
+    TooFewCells = 14,
     // the fewest moves of a counterexample for the lowest event that has one exceed the trace's length
-    ShortTrace,
+    ShortTrace = 15,
 }
 
 impl Refusal {
@@ -33,12 +34,6 @@ impl Refusal {
     pub fn number(self) -> u8
         ensures { result ≡ refusal_number self }
     {
-        match self {
-            Refusal::VoidPlant => 11,
-            Refusal::VoidSpec => 12,
-            Refusal::TooManyPairs => 13,
-            Refusal::TooFewCells => 14,
-            Refusal::ShortTrace => 15,
-        }
+        self as u8
     }
 }

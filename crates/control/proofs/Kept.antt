@@ -1,8 +1,9 @@
 -- What the tests of `make` give of the rows that it keeps: a test of four rows tells of every place, since past them there
 -- is nothing, and a row past the site count is empty.
 -- Assumes nothing.
-use Rattle.std.proofs.Common.{◌≡◌, ℕ, zero, suc, ◌-◌, ◌^◌, ◌<◌, ◌≤◌, Bool, true, false, ◌&&◌, leb, List, [], ◌∷◌, get_or, refl, ap, ◌∙◌, arith, pow_pos}
+use Rattle.std.proofs.Common.{◌≡◌, ℕ, zero, suc, ◌-◌, ◌^◌, ◌<◌, ◌≤◌, true, false, ◌&&◌, leb, List, [], ◌∷◌, get_or, refl, ap, ◌∙◌, arith, pow_pos}
 use mathlib.Core.Path.{subst⁻¹}
+use Rattle.std.proofs.Math.Bool.{and-false}
 use Rattle.std.proofs.lemmas.Bool.Decides.{nat_tests}
 use Rattle.plants.specs.Masks.{bit}
 use Rattle.plants.specs.Bits.{bit_zero}
@@ -31,10 +32,6 @@ kept_in_range events sites rows r is h =
 pub masks_told : (events modes : ℕ) (seen controlled : List ℕ) → masks_below events modes seen controlled ≡ true → (modes < 2 ^ events) × (rows_below events seen ≡ true) × (rows_below events controlled ≡ true)
 masks_told events modes seen controlled h = (grind (arith, nat_tests), grind (arith, nat_tests), grind (arith, nat_tests))
 
-and_false : (b : Bool) → (b && false) ≡ false
-and_false true = refl
-and_false false = refl
-
 -- a site whose row is empty has no event in it
 pub no_bit : (rows : List ℕ) (i e : ℕ) → get_or rows (i - 1) 0 ≡ 0 → row_bit rows i e ≡ false
-no_bit rows i e empty = ap (λ m. leb 1 i && bit m e) empty ∙ ap (λ b. leb 1 i && b) (bit_zero e) ∙ and_false (leb 1 i)
+no_bit rows i e empty = ap (λ m. leb 1 i && bit m e) empty ∙ ap (λ b. leb 1 i && b) (bit_zero e) ∙ and-false (leb 1 i)

@@ -2,10 +2,10 @@
 -- below 2 ^ E has no bit at or above E, an empty row none at all, and a mode bit stands in the union of the control rows, so
 -- in one of them.
 -- Assumes nothing.
-use Rattle.std.proofs.Common.{◌≡◌, ℕ, zero, suc, ◌-◌, ◌^◌, ◌<◌, ◌≤◌, Bool, true, false, ◌&&◌, ◌||◌, leb, ◌⊎◌, List, get_or, sym, refl, ap, ◌∙◌, inl, inr, ⊎_elim, arith, eqb-true, le-leb, leb-true}
+use Rattle.std.proofs.Common.{◌≡◌, ℕ, zero, suc, ◌-◌, ◌^◌, ◌<◌, ◌≤◌, true, ◌&&◌, ◌||◌, leb, List, get_or, sym, ap, ◌∙◌, ⊎_elim, arith, eqb-true, le-leb, leb-true}
 use lib.Bits.{bit_or}
 use borrow.Author.Tests.{both_ways}
-use Rattle.std.proofs.lemmas.Bool.{cases_lt}
+use Rattle.std.proofs.lemmas.Bool.{and_parts, cases_lt, or_cases}
 use Rattle.plants.specs.Masks.{bit}
 use Rattle.plants.specs.Bits.{bit_high, bit-or, bit_zero}
 use Rattle.control.specs.Ranges.{Rows, in_rows, most_sites, union, within}
@@ -14,17 +14,8 @@ use Rattle.control.specs.Problems.{row_bit, setup}
 use Rattle.control.specs.declared.problem.Problem.{Problem}
 
 -- a bit of a mask below 2 ^ k stands below k
-bit_below : (m k e : ℕ) → m < 2 ^ k → bit m e ≡ true → e < k
+pub bit_below : (m k e : ℕ) → m < 2 ^ k → bit m e ≡ true → e < k
 bit_below m k e small is = ⊎_elim (λ h. h) (λ past. absurd (both_ways (bit m e) (bit_high m k e small past) is)) (cases_lt e k)
-
-and_parts : (a b : Bool) → (a && b) ≡ true → (a ≡ true) × (b ≡ true)
-and_parts true true h = (refl, refl)
-and_parts true false h = absurd (both_ways false refl h)
-and_parts false b h = absurd (both_ways false refl h)
-
-or_parts : (a b : Bool) → (a || b) ≡ true → (a ≡ true) ⊎ (b ≡ true)
-or_parts true b h = inl refl
-or_parts false b h = inr h
 
 -- a bit in a row is one of a site and an event of the problem
 in_range : (events sites : ℕ) (rows : List ℕ) → Rows events sites rows → (i e : ℕ) → row_bit rows i e ≡ true → (0 < i) × (i ≤ sites) × (e < events)
@@ -40,7 +31,7 @@ in_range events sites rows ok i e is =
 union_part : (n : ℕ) (f : ℕ → ℕ) (e : ℕ) → bit (union n f) e ≡ true → (k : ℕ) × (bit (f k) e ≡ true)
 union_part zero f e h = absurd (both_ways (bit 0 e) (bit_zero e) h)
 union_part (suc n) f e h =
-    ⊎_elim (union_part n f e) (λ here. (n, here)) (or_parts (bit (union n f) e) (bit (f n) e) (sym (bit-or (union n f) (f n) e) ∙ h))
+    ⊎_elim (union_part n f e) (λ here. (n, here)) (or_cases (bit (union n f) e) (bit (f n) e) (sym (bit-or (union n f) (f n) e) ∙ h))
 
 -- a mode bit stands in some control row
 chosen : (modes : ℕ) (rows : List ℕ) → within modes (in_rows rows) ≡ true → (e : ℕ) → bit modes e ≡ true → (i : ℕ) × (row_bit rows i e ≡ true)

@@ -28,7 +28,7 @@ judged_some (Some q) None p is h = let z : ◌≡◌ {A = ℕ} 0 1 = cc in omega
 judged_some (Some q) (Some r) p is h = let z : ◌≡◌ {A = ℕ} 0 1 = cc in omega arith
 
 -- what a pair does on an event of the problem
-abbrev judgement : System → Pair → ℕ → PairStep
+abbrev judgement : System → Pair → ℕ → PairStep Pair
 judgement w y e = judged (w.plant.step y.plant e) (obeys w y.spec e)
 
 pub opened_step : (w : System) (x : Pair) (e : ℕ) → pair_step w x e ≡ outcome w x e
@@ -39,7 +39,7 @@ on_event : (w : System) (y : Pair) (e : ℕ) → e < w.setup.events → pair_ste
 on_event w y e event = opened_step w y e ∙ cond-true (ltb e w.setup.events) _ _ (lt-ltb e w.setup.events event)
 
 -- where a pair steps, the event is one of the problem
-steps_on : (w : System) (y : Pair) (e : ℕ) (o : PairStep) → (o ≡ NoStep → ⊥) → pair_step w y e ≡ o → (e < w.setup.events) × (judgement w y e ≡ o)
+steps_on : (w : System) (y : Pair) (e : ℕ) (o : PairStep Pair) → (o ≡ NoStep → ⊥) → pair_step w y e ≡ o → (e < w.setup.events) × (judgement w y e ≡ o)
 steps_on w y e o some is =
     ⊎_elim (λ event. let low = ltb-true e w.setup.events event in (low, sym (on_event w y e low) ∙ is))
     (λ past. absurd (some (sym is ∙ opened_step w y e ∙ cond-false (ltb e w.setup.events) _ _ past)))
@@ -70,11 +70,11 @@ pub plant_step : (w : System) (y : Pair) (e p : ℕ) → e < w.setup.events → 
 plant_step w y e p event steps h = judged_some (w.plant.step y.plant e) (obeys w y.spec e) p steps (sym (on_event w y e event) ∙ h)
 
 -- a step is not both legal and bad
-pub legal_not_bad : (o : PairStep) (x : Pair) → o ≡ To x → o ≡ Bad → ⊥
+pub legal_not_bad : (o : PairStep Pair) (x : Pair) → o ≡ To x → o ≡ Bad → ⊥
 legal_not_bad o x legal bad = let z : ◌≡◌ {A = ℕ} 0 1 = cc in omega arith
 
 -- the pair to which a string leads, if it is legal
-abbrev pub landed : System → PairStep → Pair
+abbrev pub landed : System → PairStep Pair → Pair
 landed w NoStep = first_pair w
 landed w Bad = first_pair w
 landed w (To x) = x
@@ -91,7 +91,7 @@ pub legal_reached : (w : System) (s : List ℕ) → Legal w s → Leads w s (rea
 legal_reached w s (x, h) = subst (Leads w s) (leads_reached w s x h) h
 
 -- what an event does at the end of a string, it does at the pair that the string reaches
-pub at_reached : (w : System) (s : List ℕ) (x : Pair) (e : ℕ) (o : PairStep) → Leads w s x → pair_step w x e ≡ o → pair_step w (reached w s) e ≡ o
+pub at_reached : (w : System) (s : List ℕ) (x : Pair) (e : ℕ) (o : PairStep Pair) → Leads w s x → pair_step w x e ≡ o → pair_step w (reached w s) e ≡ o
 at_reached w s x e o h is = ap (λ y. pair_step w y e) (sym (leads_reached w s x h)) ∙ is
 
 pub step_reached : (w : System) (e : ℕ) (s : List ℕ) → Legal w (e ∷ s) → pair_step w (reached w s) e ≡ To (reached w (e ∷ s))

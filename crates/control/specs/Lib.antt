@@ -4,3 +4,4 @@ pub mod Problems
 pub mod Systems
 pub mod Strings
 pub mod Audits
+pub mod Arrangements

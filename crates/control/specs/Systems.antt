@@ -31,17 +31,17 @@ abbrev pub obeys : System → ℕ → ℕ → Option ℕ
 obeys w q e = cond (bit w.spec.alphabet e) (w.spec.step q e) (Some q)
 
 -- the plant's step and what the specification makes of it
-abbrev pub judged : Option ℕ → Option ℕ → PairStep
+abbrev pub judged : Option ℕ → Option ℕ → PairStep Pair
 judged None r = NoStep
 judged (Some p) None = Bad
 judged (Some p) (Some q) = Legal (record { plant = p; spec = q })
 
 -- What an event does to a pair: a pair steps on an event of the problem when the plant does, and the step is legal if
 -- the specification does not know the event and stays, or knows it and steps too; otherwise it is bad.
-abbrev pub outcome : System → Pair → ℕ → PairStep
+abbrev pub outcome : System → Pair → ℕ → PairStep Pair
 outcome w x e =
     cond (nat_lt e w.setup.events) (judged (w.plant.step x.plant e) (obeys w x.spec e)) NoStep
 
 -- the same, shut: what strings are made of, and what most proofs need not look into
-unfoldable pub pair_step : System → Pair → ℕ → PairStep
+unfoldable pub pair_step : System → Pair → ℕ → PairStep Pair
 pair_step w x e = outcome w x e

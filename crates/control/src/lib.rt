@@ -2,13 +2,15 @@
 
 #![tactic(auto)]
 
+mod arrangement;
 mod pair;
 mod problem;
 mod recorded;
 
+pub use arrangement::Arrangement;
 pub use pair::{Pair, PairStep};
 pub use problem::{Mode, Problem, SITES, Unmade};
-pub use recorded::{Finding, Stop, audit};
+pub use recorded::{Stop, Stopped};
 
 #[cfg(test)]
 mod tests;

@@ -12,6 +12,7 @@ pub const SITES: u8 = 4;
 
 // Who sees and who controls which event, and how the controllers' answers are fused. A bit of the modes makes an event
 // disjunctive. Row k is that of site k + 1, and rows past the site count hold no bit.
+// Kept: two lists of rows and not one list of pairs, since every question and every test reads one of them alone.
 #[derive(Clone, Copy)]
 pub struct Problem {
     events: u8,
@@ -35,15 +36,15 @@ pub enum Mode {
     Disjunctive,
 }
 
-// Why no problem can be made.
+// Why no problem can be made, with the numbers of the refusals.
 #[derive(Clone, Copy, PartialEq, Eq, Debug)]
 pub enum Unmade {
     // not 1 to 32 events
-    EventCount,
+    EventCount = 41,
     // not 1 to 4 sites
-    SiteCount,
+    SiteCount = 42,
     // a bit at or above the event count, in the modes or in a kept row
-    MaskBit,
+    MaskBit = 43,
     // a mode bit for an event that no site controls
-    ModeBit,
+    ModeBit = 44,
 }

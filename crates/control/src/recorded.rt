@@ -1,10 +1,10 @@
 // The audit of a recorded list of events, the oldest first.
-ghost use Rattle.control.specs.Audits.{Audited};
-ghost use Rattle.control.specs.Problems.{setup};
-ghost use Rattle.control.specs.Systems.{system};
+ghost use Rattle.std.specs.Prelude.{◌≡◌};
+ghost use Rattle.control.specs.Arrangements.{meant};
+ghost use Rattle.control.specs.Audits.{Audited, followed};
 
+use crate::arrangement::Arrangement;
 use crate::pair::{Pair, PairStep};
-use crate::problem::Problem;
 use plants::{Event, Plant};
 
 // How a list stops being a legal string.
@@ -18,33 +18,39 @@ pub enum Stop {
     Bad,
 }
 
+// The list is a legal string up to this place, counted from 0, and no further.
 #[derive(Clone, Copy, PartialEq, Eq, Debug)]
-pub enum Finding {
-    // the list is a legal string
-    Legal,
-    // it is one up to this place, counted from 0, and no further
-    Stops(usize, Stop),
+pub struct Stopped {
+    pub at: usize,
+    pub how: Stop,
 }
 
-// Whether a recorded list is a legal string, or where it stops being one and how.
-pub fn audit<P: Plant, S: Plant>(
-    problem: &Problem,
-    plant: &P,
-    spec: &S,
-    events: &[Event],
-) -> Finding
-    ensures { Audited (system (setup problem.now) (P.Plant.meaning plant.now) (S.Plant.meaning spec.now)) events.now result }
-{
-    let mut pair = Pair::first(plant, spec);
-    for (at, event) in events.iter().enumerate() {
-        if *event >= problem.events() {
-            return Finding::Stops(at, Stop::NoEvent);
+impl<'a, P: Plant, S: Plant> Arrangement<'a, P, S> {
+    // Whether a recorded list is a legal string, or where it stops being one and how.
+    pub fn audit(&self, events: &[Event]) -> Result<(), Stopped>
+        ensures { Audited (meant self.now) events.now result }
+    {
+        let mut pair = self.first();
+        for (at, event) in events.iter().enumerate() {
+            match self.follow(pair, *event) {
+                Ok(next) => pair = next,
+                Err(how) => return Err(Stopped { at, how }),
+            }
         }
-        match pair.step(problem, plant, spec, *event) {
-            PairStep::NoStep => return Finding::Stops(at, Stop::NoStep),
-            PairStep::Bad => return Finding::Stops(at, Stop::Bad),
-            PairStep::Legal(next) => pair = next,
+        Ok(())
+    }
+
+    // The pair that an event leads to by a legal step.
+    fn follow(&self, pair: Pair, event: Event) -> Result<Pair, Stop>
+        ensures { result ≡ followed (meant self.now) pair event }
+    {
+        if event >= self.problem.events() {
+            return Err(Stop::NoEvent);
+        }
+        match self.step(pair, event) {
+            PairStep::NoStep => Err(Stop::NoStep),
+            PairStep::Bad => Err(Stop::Bad),
+            PairStep::Legal(next) => Ok(next),
         }
     }
-    Finding::Legal
 }

@@ -1,5 +1,5 @@
 // What problems and pairs are for, on examples.
-use crate::{Finding, Mode, Pair, PairStep, Problem, Stop, Unmade, audit};
+use crate::{Arrangement, Mode, Pair, PairStep, Problem, Stop, Stopped, Unmade};
 use plants::{Counter, Plant};
 
 #[test]
@@ -50,27 +50,37 @@ fn a_pair_steps_with_the_plant(rt: HostRuntime) {
         down: 2,
         limit: 1,
     };
-    let first = Pair::first(&plant, &spec);
+    let arrangement = Arrangement::new(&problem, &plant, &spec);
+    let first = arrangement.first();
     assert_eq!(rt;
-        first.step(&problem, &plant, &spec, 0),
+        arrangement.step(first, 0),
         PairStep::Legal(Pair { plant: 1, spec: 1 })
     );
-    assert_eq!(rt; first.step(&problem, &plant, &spec, 1), PairStep::NoStep);
+    assert_eq!(rt; arrangement.step(first, 1), PairStep::NoStep);
     assert_eq!(rt;
-        audit(&problem, &plant, &spec, &[0, 1]),
-        Finding::Legal,
+        arrangement.audit(&[0, 1]),
+        Ok(()),
         "the specification does not know event 1"
     );
     assert_eq!(rt;
-        audit(&problem, &plant, &spec, &[0, 0]),
-        Finding::Stops(1, Stop::Bad)
+        arrangement.audit(&[0, 0]),
+        Err(Stopped {
+            at: 1,
+            how: Stop::Bad
+        })
     );
     assert_eq!(rt;
-        audit(&problem, &plant, &spec, &[0, 2]),
-        Finding::Stops(1, Stop::NoStep)
+        arrangement.audit(&[0, 2]),
+        Err(Stopped {
+            at: 1,
+            how: Stop::NoStep
+        })
     );
     assert_eq!(rt;
-        audit(&problem, &plant, &spec, &[3]),
-        Finding::Stops(0, Stop::NoEvent)
+        arrangement.audit(&[3]),
+        Err(Stopped {
+            at: 0,
+            how: Stop::NoEvent
+        })
     );
 }

@@ -3,13 +3,12 @@
 -- Assumes nothing.
 use Rattle.std.proofs.Common.{◌≡◌, ℕ, suc, ◌+◌, ◌≤◌, true, cond, eqb, ltb, leb, List, [], ◌∷◌, sym, refl, ap, ◌∙◌, subst, inl, inr, arith}
 use Rattle.std.proofs.lemmas.Bool.{and_parts, cond_both, eqb-true, leb-true, ltb-true, ltb-false, false≢true}
-use Rattle.plants.specs.Machine.{Machine}
 use Rattle.plants.specs.Masks.{width}
 use Rattle.control.specs.Ranges.{most_sites}
 use Rattle.decks.specs.Decks.{AllSites, InOrder, IsCounter, One, PlantRead, SitesAfter, Sound, SpecRead, stage}
 use Rattle.frames.specs.Frames.{Frame, header, site, table, step, counter, play}
 use Rattle.decks.specs.Order.{Placed, State, after, complete, due, in_range, site_placed, step_fits, table_fits}
-use Rattle.decks.specs.Said.{Said, adds, said, table_named, with_plant, with_spec, with_table}
+use Rattle.decks.specs.Said.{said, table_named}
 use Rattle.decks.specs.declared.stage.Stage.{Stage}
 use Rattle.decks.specs.declared.stage.Stage.TheVariants.{Header, Site, PlantTable, PlantSteps, SpecTable, SpecSteps, Plays}
 
@@ -124,7 +123,7 @@ shape_whole Plays fs h done = h
 pub sound_order : (fs : List Frame) → Sound fs → complete (stage fs) ≡ true → InOrder fs
 sound_order fs h done = shape_whole (stage fs) fs (sound_shape fs h) done
 
--- the site that is due is one of the problem's, and there are at most as many events as a mask has bits
+-- the site that is due is one of the problem's
 shape_placed : (s : Stage) (fs : List Frame) → Shape s fs → site_placed s (said fs).sites
 shape_placed Header fs h = tt
 shape_placed (Site i) fs (n, k, is, bounds, count, before) = (omega arith, omega arith, omega arith)
@@ -134,23 +133,8 @@ shape_placed SpecTable fs h = tt
 shape_placed SpecSteps fs h = tt
 shape_placed Plays fs h = tt
 
-table_few : (x : Said) (r : ℕ) (m : Machine) → x.events ≤ width → (with_table x r m).events ≤ width
-table_few x r m h = cond_both (eqb r 0) (with_plant x m) (with_spec x m) (λ y. y.events ≤ width) (λ _. h) (λ _. h)
-
-adds_few : (s : Stage) (x : Said) (f : Frame) → in_range s x f ≡ true → x.events ≤ width → (adds x f).events ≤ width
-adds_few s x (header e n m) is h = (header_told e n m is).0
-adds_few s x (site i a b) is h = h
-adds_few s x (table r n q a) is h = table_few x r _ h
-adds_few s x (step r p e q) is h = table_few x r _ h
-adds_few s x (counter u d l) is h = h
-adds_few s x (play e) is h = h
-
-few_events : (fs : List Frame) → Sound fs → (said fs).events ≤ width
-few_events [] h = omega arith
-few_events (f ∷ fs) (h, next) = adds_few (stage fs) (said fs) f next.in_range (few_events fs h)
-
 abbrev pub state_of : List Frame → State
 state_of fs = record { stage = stage fs; said = said fs }
 
 pub sound_placed : (fs : List Frame) → Sound fs → Placed (state_of fs)
-sound_placed fs h = record { few = few_events fs h; site = shape_placed (stage fs) fs (sound_shape fs h) }
+sound_placed fs h = shape_placed (stage fs) fs (sound_shape fs h)

@@ -14,7 +14,7 @@ use Rattle.decks.specs.declared.deck.Deck.{Deck}
 use Rattle.frames.specs.declared.faults.Fault.{Fault}
 use Rattle.frames.specs.declared.faults.Fault.TheVariants as fault
 use Rattle.frames.specs.declared.faults.FrameFault.{FrameFault}
-use Rattle.frames.specs.declared.faults.FrameFault.TheVariants.{Ended, NotDue, OutOfRange, SecondStep, UnknownKind, WrongLength}
+use Rattle.frames.specs.declared.faults.FrameFault.TheVariants.{NotDue, OutOfRange, SecondStep, UnknownKind, WrongLength}
 use Rattle.frames.specs.declared.faults.LineFault.{LineFault}
 use Rattle.frames.specs.declared.faults.LineFault.TheVariants.{Malformed, TooLong}
 use Rattle.decks.specs.declared.unread.Unread.{Unread}
@@ -39,32 +39,32 @@ with_rest_ok : (rest : List ℕ) (r : Result Frame FrameFault) (f : Frame) (afte
 with_rest_ok rest (Ok g) f after h =
     let same : ◌≡◌ {A = Frame × List ℕ} (g, rest) (f, after) = cc in
     (ap (λ q. Ok q.0) same, ap (λ q. q.1) same)
-with_rest_ok rest (Err why) f after h = absurd (let z : ◌≡◌ {A = ℕ} 0 1 = cc in omega arith)
+with_rest_ok rest (Err why) f after h = cc
 
 of_line_ok : (number : ℕ) (r : Result (List ℕ × List ℕ) LineFault) (f : Frame) (after : List ℕ) → of_line number r ≡ Ok (f, after) → (l : List ℕ) × (r ≡ Ok (l, after)) × (frame_at l number ≡ Ok f)
 of_line_ok number (Ok p) f after h =
     let (is, rest) = with_rest_ok p.1 (frame_at p.0 number) f after h in
     (p.0, ap (λ q. Ok (p.0, q)) rest, is)
-of_line_ok number (Err why) f after h = absurd (let z : ◌≡◌ {A = ℕ} 0 1 = cc in omega arith)
+of_line_ok number (Err why) f after h = cc
 
 judged_ok : (t : State) (number : ℕ) (p : Frame × List ℕ) (o : Option FrameFault) (t' : State) (after : List ℕ) → judged t number p o ≡ Ok (t', after) → (o ≡ None) × (moved t p.0 ≡ t') × (p.1 ≡ after)
 judged_ok t number p None t' after h =
     let same : ◌≡◌ {A = State × List ℕ} (moved t p.0, p.1) (t', after) = cc in
     (refl, ap (λ q. q.0) same, ap (λ q. q.1) same)
-judged_ok t number p (Some why) t' after h = absurd (let z : ◌≡◌ {A = ℕ} 0 1 = cc in omega arith)
+judged_ok t number p (Some why) t' after h = cc
 
 taken_ok : (t : State) (number : ℕ) (r : Result (Frame × List ℕ) Fault) (t' : State) (after : List ℕ) → taken t number r ≡ Ok (t', after) → (f : Frame) × (r ≡ Ok (f, after)) × (frame_fault t f number ≡ None) × (moved t f ≡ t')
 taken_ok t number (Ok p) t' after h =
     let (none, then, rest) = judged_ok t number p (frame_fault t p.0 number) t' after h in
     (p.0, ap (λ q. Ok (p.0, q)) rest, none, then)
-taken_ok t number (Err why) t' after h = absurd (let z : ◌≡◌ {A = ℕ} 0 1 = cc in omega arith)
+taken_ok t number (Err why) t' after h = cc
 
 -- a frame with no fault
 no_fault : (a b c : Bool) (x y z : FrameFault) → cond a (cond b (cond c (Some x) None) (Some y)) (Some z) ≡ None → (a ≡ true) × (b ≡ true) × (c ≡ false)
-no_fault true true true x y z h = absurd (let o : ◌≡◌ {A = ℕ} 0 1 = cc in omega arith)
+no_fault true true true x y z h = cc
 no_fault true true false x y z h = (refl, refl, refl)
-no_fault true false c x y z h = absurd (let o : ◌≡◌ {A = ℕ} 0 1 = cc in omega arith)
-no_fault false b c x y z h = absurd (let o : ◌≡◌ {A = ℕ} 0 1 = cc in omega arith)
+no_fault true false c x y z h = cc
+no_fault false b c x y z h = cc
 
 pub taken_more : (text : List ℕ) (t : State) (number : ℕ) (rest : List ℕ) (t' : State) (after : List ℕ) → Sofar text t number rest → next t rest number ≡ Ok (t', after) → Sofar text t' (number + 1) after
 taken_more text t number rest t' after so_far h =
@@ -92,11 +92,11 @@ taken_less t number rest t' after h =
 
 -- a frame with a fault: which one it is
 with_rest_err : (rest : List ℕ) (r : Result Frame FrameFault) (why : Fault) → with_rest rest r ≡ Err why → (x : FrameFault) × (r ≡ Err x) × (why ≡ fault.Frame x)
-with_rest_err rest (Ok g) why h = absurd (let z : ◌≡◌ {A = ℕ} 0 1 = cc in omega arith)
+with_rest_err rest (Ok g) why h = cc
 with_rest_err rest (Err x) why h = (x, refl, cc)
 
 unframed : (P : FrameFault → Type 0) (a b : Bool) (v : Frame) (y z w : FrameFault) → cond a (cond b (Ok v) (Err y)) (Err z) ≡ Err w → (a ≡ true → b ≡ false → P y) → (a ≡ false → P z) → P w
-unframed P true true v y z w h short other = absurd (let o : ◌≡◌ {A = ℕ} 0 1 = cc in omega arith)
+unframed P true true v y z w h short other = cc
 unframed P true false v y z w h short other = let same : y ≡ w = cc in subst P same (short refl refl)
 unframed P false b v y z w h short other = let same : z ≡ w = cc in subst P same (other refl)
 
@@ -115,7 +115,7 @@ bad_line l n fs text rest x count begins h =
 
 named : (P : FrameFault → Type 0) (a b c : Bool) (x y z w : FrameFault) → cond a (cond b (cond c (Some x) None) (Some y)) (Some z) ≡ Some w → (a ≡ true → b ≡ true → c ≡ true → P x) → (a ≡ true → b ≡ false → P y) → (a ≡ false → P z) → P w
 named P true true true x y z w h again out early = let same : x ≡ w = cc in subst P same (again refl refl refl)
-named P true true false x y z w h again out early = absurd (let o : ◌≡◌ {A = ℕ} 0 1 = cc in omega arith)
+named P true true false x y z w h again out early = cc
 named P true false c x y z w h again out early = let same : y ≡ w = cc in subst P same (out refl refl)
 named P false b c x y z w h again out early = let same : z ≡ w = cc in subst P same (early refl)
 
@@ -137,7 +137,7 @@ of_line_err fs text n (Err x) why found count some h =
     subst (Faults fs text) same (count, some, none)
 
 judged_err : (fs : List Frame) (text rest l : List ℕ) (f : Frame) (n : ℕ) (o : Option FrameFault) (why : Fault) → frame_fault (state_of fs) f n ≡ o → n ≡ suc (length fs) → BeginsWith text l rest → IsFrame l f → judged (state_of fs) n (f, rest) o ≡ Err why → Faults fs text why
-judged_err fs text rest l f n None why told count begins is h = absurd (let z : ◌≡◌ {A = ℕ} 0 1 = cc in omega arith)
+judged_err fs text rest l f n None why told count begins is h = cc
 judged_err fs text rest l f n (Some x) why told count begins is h =
     let same : fault.Frame x ≡ why = cc in
     subst (Faults fs text) same (bad_frame fs text rest l f n x count begins is told)
@@ -170,19 +170,7 @@ pub stopped : (text : List ℕ) (t : State) (number : ℕ) (rest : List ℕ) (t'
 stopped text t number rest t' (Faulty why) few so_far some h = refused text t number rest why few so_far some h
 stopped text t number rest t' OutOfMemory few so_far some h = few
 
--- at the end of the text the deck is whole, or the specification's table is missing
-pub ended : (text : List ℕ) (t : State) (number : ℕ) (rest : List ℕ) → length text ≤ most_bytes → Sofar text t number rest → length rest ≡ 0 → complete t.stage ≡ false → Reads text (Err (Faulty (fault.Frame (Ended number))))
-ended text t number [] few so_far none cut =
-    record {
-      few = few;
-      frames = so_far.frames;
-      rest = [];
-      spelt = so_far.spelt;
-      sound = so_far.sound;
-      first = (so_far.count, refl, ap (λ s. complete s.stage) (sym so_far.now) ∙ cut);
-    }
-ended text t number (b ∷ rest) few so_far none cut = absurd (omega arith)
-
+-- at the end of the text the deck is whole
 pub whole : (text : List ℕ) (t : State) (number : ℕ) (rest : List ℕ) (d : Deck) → length text ≤ most_bytes → Sofar text t number rest → length rest ≡ 0 → complete t.stage ≡ true → says d ≡ t.said → Reads text (Ok d)
 whole text t number [] d few so_far none done yields =
     let at = so_far.now in

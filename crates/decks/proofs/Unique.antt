@@ -3,7 +3,7 @@
 use Rattle.std.proofs.Common.{◌≡◌, ℕ, suc, ◌-◌, ◌<◌, ◌≤◌, true, false, ◌&&◌, eqb, leb, ◌⊎◌, List, [], ◌∷◌, length, get_or, Some, Ok, Err, Result, sym, refl, ap, ◌∙◌, subst, inl, inr, ⊎_elim, arith, length-append}
 use Rattle.std.proofs.lemmas.Bool.{cases_eq, cases_lt, cases_order, cond-false, cond-true, ne_eqb, true≢false}
 use Rattle.std.proofs.lemmas.Bool.Decides.{nat_tests}
-use Rattle.decks.specs.Decks.{Agree, Broken, Faults, Follows, IsFrame, Reads, Sound, Spells, Tells, Whole, most_bytes, stage}
+use Rattle.decks.specs.Decks.{Agree, Broken, Faults, Follows, IsFrame, Reads, Sound, Spells, Tells, most_bytes, stage}
 use Rattle.frames.specs.Digits.{byte_at}
 use Rattle.frames.specs.Frames.{Frame, frame_at, line_lengths, of_line, with_rest}
 use Rattle.frames.specs.Lines.{BeginsWith, NoLine, first_line, line_feed}
@@ -82,7 +82,6 @@ spells_once (f ∷ fs) (g ∷ gs) text rest after long (more, h, (l, begins, is)
     let pair : ◌≡◌ {A = Result (List ℕ × List ℕ) LineFault} (Ok (l, rest)) (Ok (m, after)) = sym (line_there more 0 l rest begins) ∙ ap (λ t. first_line t 0) same ∙ line_there also 0 m after starts in
     let both : ◌≡◌ {A = List ℕ × List ℕ} (l, rest) (m, after) = cc in
     let frame : ◌≡◌ {A = Result Frame FrameFault} (Ok f) (Ok g) = sym (is 0) ∙ ap (λ p. frame_at p.0 0) both ∙ means 0 in
-    let last : f ≡ g = cc in
     (cc, ap (λ p. p.1) both)
 
 -- sound frames of which the text goes on with a further one
@@ -141,7 +140,7 @@ stops_empty fs rest none t after h = omega (arith, taken_less (state_of fs) (suc
 
 stops_fault : (fs : List Frame) (rest : List ℕ) (why : Fault) → Faults fs rest why → Stops fs rest
 stops_fault fs rest why bad t after h =
-    ⊎_elim (λ some. let z : ◌≡◌ {A = ℕ} 0 1 = cc (faults_next fs rest why bad some) in omega arith) (λ none. stops_empty fs rest none t after h) (cases_lt 0 (length rest))
+    ⊎_elim (λ some. cc (faults_next fs rest why bad some)) (λ none. stops_empty fs rest none t after h) (cases_lt 0 (length rest))
 
 -- at the end of a text the only fault is a deck that ends too soon
 begins_some : (l rest : List ℕ) → BeginsWith [] l rest → ⊥
@@ -193,24 +192,11 @@ pub tells_or_faulty : (text : List ℕ) (x : Said) (why : Fault) → Tells text 
 tells_or_faulty text x why h k =
     ⊎_elim (λ b. tells_or_broken text x why h b) (λ b. omega (arith, h.few, b.1)) (long_or_broken text why k)
 
--- a deck that was read is what its text tells
-pub told_of : (text : List ℕ) (d : Deck) → Whole text d → Tells text (says d)
-told_of text d h = record { few = h.few; frames = h.frames; spelt = h.spelt; sound = h.sound; in_order = h.in_order; done = h.done; yields = h.yields }
-
-whole_once : (text : List ℕ) (d e : Deck) → Whole text d → Whole text e → says d ≡ says e
-whole_once text d e a b = tells_once text (says d) (says e) (told_of text d a) (told_of text e b)
-
-whole_or_broken : (text : List ℕ) (d : Deck) (why : Fault) → Whole text d → Broken text why → ⊥
-whole_or_broken text d why a b = tells_or_broken text (says d) why (told_of text d a) b
-
-whole_or_faulty : (text : List ℕ) (d : Deck) (why : Fault) → Whole text d → Reads text (Err (Faulty why)) → ⊥
-whole_or_faulty text d why h k = tells_or_faulty text (says d) why (told_of text d h) k
-
 pub reads_once : (text : List ℕ) (r s : Result Deck Unread) → Reads text r → Reads text s → Agree r s
-reads_once text (Ok d) (Ok e) h k = whole_once text d e h k
-reads_once text (Ok d) (Err (Faulty why)) h k = whole_or_faulty text d why h k
+reads_once text (Ok d) (Ok e) h k = tells_once text (says d) (says e) h k
+reads_once text (Ok d) (Err (Faulty why)) h k = tells_or_faulty text (says d) why h k
 reads_once text (Ok d) (Err OutOfMemory) h k = tt
-reads_once text (Err (Faulty why)) (Ok e) h k = whole_or_faulty text e why k h
+reads_once text (Err (Faulty why)) (Ok e) h k = tells_or_faulty text (says e) why k h
 reads_once text (Err (Faulty why)) (Err (Faulty other)) h k = faulty_once text why other h k
 reads_once text (Err (Faulty why)) (Err OutOfMemory) h k = tt
 reads_once text (Err OutOfMemory) s h k = tt

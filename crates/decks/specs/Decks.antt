@@ -132,16 +132,6 @@ pub record Tells (text : List ℕ) (x : Said) : Type 0 where
   pub done : complete (stage frames) ≡ true
   pub yields : x ≡ said frames
 
--- The text spells sound frames in the stated order, and the deck is what they say.
-pub record Whole (text : List ℕ) (d : Deck) : Type 0 where
-  pub few : length text ≤ most_bytes
-  pub frames : List Frame
-  pub spelt : Spells frames text []
-  pub sound : Sound frames
-  pub in_order : InOrder frames
-  pub done : complete (stage frames) ≡ true
-  pub yields : says d ≡ said frames
-
 -- The text spells sound frames up to the line that has the fault.
 pub record Broken (text : List ℕ) (why : Fault) : Type 0 where
   pub few : length text ≤ most_bytes
@@ -153,7 +143,7 @@ pub record Broken (text : List ℕ) (why : Fault) : Type 0 where
 
 -- what reading a text answers, want of memory aside
 abbrev pub Reads : List ℕ → Result Deck Unread → Type 0
-Reads text (Ok d) = Whole text d
+Reads text (Ok d) = Tells text (says d)
 Reads text (Err (Faulty (fault.Line TooLong))) = most_bytes < length text
 Reads text (Err (Faulty (fault.Line (Malformed n)))) = Broken text (fault.Line (Malformed n))
 Reads text (Err (Faulty (fault.Frame why))) = Broken text (fault.Frame why)

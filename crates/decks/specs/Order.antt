@@ -7,6 +7,8 @@ use Rattle.frames.specs.Frames.{Frame, header, site, table, step, counter, play,
 use Rattle.decks.specs.Said.{Said, nothing, adds, table_named}
 use Rattle.frames.specs.declared.faults.FrameFault.{FrameFault}
 use Rattle.frames.specs.declared.faults.FrameFault.TheVariants.{NotDue, OutOfRange, SecondStep}
+use Rattle.decks.specs.declared.role.Role.{Role}
+use Rattle.decks.specs.declared.role.Role.TheVariants.{Plant, Spec}
 use Rattle.decks.specs.declared.stage.Stage.{Stage}
 use Rattle.decks.specs.declared.stage.Stage.TheVariants.{Header, Site, PlantTable, PlantSteps, SpecTable, SpecSteps, Plays}
 
@@ -35,6 +37,11 @@ after n s (table r k q a) = cond (r == 0) PlantSteps SpecSteps
 after n s (step r p e q) = s
 after n s (counter u d l) = SpecTable
 after n s (play e) = Plays
+
+-- the number of a role
+abbrev pub role_number : Role → ℕ
+role_number Plant = 0
+role_number Spec = 1
 
 -- the site that is due, and the role of a table or a step that is due
 abbrev pub due_site : Stage → ℕ
@@ -132,6 +139,5 @@ site_placed SpecTable n = Unit {0}
 site_placed SpecSteps n = Unit {0}
 site_placed Plays n = Unit {0}
 
-pub record Placed (t : State) : Type 0 where
-  pub few : t.said.events ≤ width
-  pub site : site_placed t.stage t.said.sites
+abbrev pub Placed : State → Type 0
+Placed t = site_placed t.stage t.said.sites

@@ -1,5 +1,5 @@
 // What a deck yields.
-ghost use Rattle.std.specs.Prelude.{◌<◌, ◌≤◌, length};
+ghost use Rattle.std.specs.Prelude.{◌≤◌, length};
 ghost use Rattle.decks.specs.Decks.{Only, Reads, most_bytes};
 
 use crate::reader::Reader;
@@ -18,6 +18,7 @@ pub struct Deck {
     pub events: u8,
     pub sites: u8,
     pub modes: Mask,
+    // Kept: a problem is made of two lists of rows, and these are given to it as they stand.
     pub seen: [Mask; 4],
     pub controlled: [Mask; 4],
     pub plant: Product<Table, Counter>,
@@ -32,35 +33,18 @@ impl Deck {
         ensures only { Only text.now result }
     {
         if text.len() > MOST_BYTES {
-            return refuse_long(text);
+            return Err(Unread::Faulty(Fault::Line(LineFault::TooLong)));
         }
-        read_short(heap, text)
+        read_frames(heap, text)
     }
 }
 
-// A text of too many bytes.
-fn refuse_long(text: &[u8]) -> Result<Deck, Unread>
-    requires { most_bytes < length text.now }
-    ensures reads { Reads text.now result }
-    ensures only { Only text.now result }
-{
-    Err(Unread::Faulty(Fault::Line(LineFault::TooLong)))
-}
-
-// A text of few enough bytes.
-fn read_short(heap: Global, text: &[u8]) -> Result<Deck, Unread>
-    requires { length text.now ≤ most_bytes }
-    ensures reads { Reads text.now result }
-    ensures only { Only text.now result }
-{
-    read_frames(heap, text)
-}
-
-// The frames of the text, one after the other.
+// The frames of a text of few enough bytes, one after the other.
 fn read_frames(heap: Global, text: &[u8]) -> Result<Deck, Unread>
     requires { length text.now ≤ most_bytes }
     ensures { Reads text.now result }
 {
+    // Kept: an iterator of frames would count its lines in the same way, and need a bound on their number besides.
     let mut reader = Reader::new(heap);
     let mut rest = text;
     let mut number = 1;
@@ -68,6 +52,5 @@ fn read_frames(heap: Global, text: &[u8]) -> Result<Deck, Unread>
         rest = reader.take(heap, rest, number)?;
         number += 1;
     }
-    let deck = reader.finish(number)?;
-    Ok(deck)
+    Ok(reader.finish(number)?)
 }

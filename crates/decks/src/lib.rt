@@ -4,6 +4,7 @@
 
 mod deck;
 mod reader;
+mod role;
 mod stage;
 mod unread;
 

@@ -10,6 +10,7 @@ mod due;
 mod text;
 
 use crate::deck::Deck;
+use crate::role::Role;
 use crate::stage::Stage;
 use crate::unread::Unread;
 use frames::{Frame, FrameFault};
@@ -17,14 +18,14 @@ use plants::{Counter, Product, Table};
 use std::alloc::Global;
 
 #[derive(Drop)]
-pub struct Reader {
-    pub stage: Stage,
-    pub deck: Deck,
+pub(crate) struct Reader {
+    stage: Stage,
+    deck: Deck,
 }
 
 impl Reader {
     // A reader that has read nothing.
-    pub fn new(heap: Global) -> Reader
+    pub(crate) fn new(heap: Global) -> Reader
         ensures { state result ≡ start }
     {
         Reader {
@@ -50,26 +51,23 @@ impl Reader {
     }
 
     // Takes the next frame, or refuses it: its kind first, and then its values.
-    pub fn accept(&mut self, heap: Global, frame: Frame<'_>) -> Result<(), Unread>
+    // Kept: one match of state and kind, since it is the table of what may follow.
+    fn accept(&mut self, heap: Global, frame: Frame<'_>) -> Result<(), Unread>
         requires { Placed (state self.old) }
         ensures value { Answers result (frame_fault (state self.old) (content frame.entry) (number_of frame.entry)) }
         ensures after { is_ok result ≡ true → state self.new ≡ moved (state self.old) (content frame.entry) }
     {
         match (self.stage, frame) {
-            (Stage::Header, Frame::Header(digits, number)) => self.header(digits, number)?,
-            (Stage::Site(due), Frame::Site(digits, number)) => self.site(due, digits, number)?,
-            (Stage::PlantTable, Frame::Table(digits, number)) => {
-                self.plant_table(heap, digits, number)?
+            (Stage::Header, Frame::Header(payload)) => self.header(payload)?,
+            (Stage::Site(due), Frame::Site(payload)) => self.site(due, payload)?,
+            (Stage::PlantTable, Frame::Table(payload)) => self.table(heap, Role::Plant, payload)?,
+            (Stage::PlantSteps, Frame::Step(payload)) => self.step(Role::Plant, payload)?,
+            (Stage::PlantSteps, Frame::Counter(payload)) => self.counter(payload)?,
+            (Stage::PlantSteps | Stage::SpecTable, Frame::Table(payload)) => {
+                self.table(heap, Role::Spec, payload)?
             }
-            (Stage::PlantSteps, Frame::Step(digits, number)) => self.plant_step(digits, number)?,
-            (Stage::PlantSteps, Frame::Counter(digits, number)) => self.counter(digits, number)?,
-            (Stage::PlantSteps | Stage::SpecTable, Frame::Table(digits, number)) => {
-                self.spec_table(heap, digits, number)?
-            }
-            (Stage::SpecSteps, Frame::Step(digits, number)) => self.spec_step(digits, number)?,
-            (Stage::SpecSteps | Stage::Plays, Frame::Play(digits, number)) => {
-                self.play(digits, number)?
-            }
+            (Stage::SpecSteps, Frame::Step(payload)) => self.step(Role::Spec, payload)?,
+            (Stage::SpecSteps | Stage::Plays, Frame::Play(payload)) => self.play(payload)?,
             (_, frame) => return Err(FrameFault::NotDue(frame.number()).into()),
         }
         Ok(())

@@ -1,6 +1,6 @@
 // What may follow, by what has been read.
 #[derive(Clone, Copy)]
-pub enum Stage {
+pub(crate) enum Stage {
     // nothing has been read: the header
     Header,
     // the site of this number

@@ -6,6 +6,8 @@ ghost use Rattle.decks.specs.declared.unread.Unread.TheVariants.{Faulty, OutOfMe
 use frames::{Fault, FrameFault};
 use std::alloc::{AllocError, AllocFailed};
 
+// Kept: crate run stops for its own faults in the same form; were both one generic type, run could not say how one of its
+// instances becomes another.
 #[derive(Clone, Copy, PartialEq, Eq, Debug)]
 pub enum Unread {
     Faulty(Fault),

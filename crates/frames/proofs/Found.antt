@@ -1,6 +1,6 @@
 -- The first line of a text is found exactly where one stands: the digits that are counted are digits, and where a line and
 -- its line feed stand, the count is the line's length. Assumes nothing.
-use Rattle.std.proofs.Common.{◌≡◌, ℕ, zero, suc, ◌+◌, ◌%◌, ◌<◌, ◌≤◌, List, [], ◌∷◌, ◌++◌, length, get_or, take, drop, Ok, Err, Result, sym, refl, ap, ◌∙◌, subst, ⊎_elim, add-one, arith, take-append-drop}
+use Rattle.std.proofs.Common.{◌≡◌, ℕ, zero, suc, ◌+◌, ◌%◌, ◌<◌, ◌≤◌, true, false, List, [], ◌∷◌, ◌++◌, length, get_or, take, drop, Ok, Err, Result, sym, refl, ap, ◌∙◌, subst, ⊎_elim, add-one, arith, take-append-drop}
 use Rattle.std.proofs.lemmas.List.{drop_more, get_or_past, get_or_at, take_at, length-take-le}
 use Rattle.std.proofs.lemmas.Bool.{cases_Bool, cases_lt}
 use Rattle.std.proofs.lemmas.Bool.Decides.{nat_tests}
@@ -8,7 +8,13 @@ use Rattle.frames.specs.Digits.{digital}
 use Rattle.frames.specs.Lines.{BeginsWith, Digits, NoLine, first_line, line_feed, run}
 use Rattle.frames.specs.declared.faults.LineFault.{LineFault}
 use Rattle.frames.specs.declared.faults.LineFault.TheVariants.{Malformed}
-use Rattle.frames.proofs.Runs.{run_digit, run_other}
+
+-- at a digit the count goes on, and at any other byte it stops
+run_digit : (b : ℕ) (bs : List ℕ) → digital b ≡ true → run (b ∷ bs) ≡ suc (run bs)
+run_digit b bs is = grind arith
+
+run_other : (b : ℕ) (bs : List ℕ) → digital b ≡ false → run (b ∷ bs) ≡ 0
+run_other b bs is = grind arith
 
 -- the digits that are counted
 counted_digits : (text : List ℕ) (k : ℕ) → k ≡ run text → Digits (take k text)
@@ -20,7 +26,7 @@ counted_digits (b ∷ bs) (suc k) e =
 
 -- digits and then a line feed are counted whole
 run_line : (l rest : List ℕ) → Digits l → run (l ++ line_feed ∷ rest) ≡ length l
-run_line [] rest h = run_other line_feed rest refl
+run_line [] rest h = refl
 run_line (d ∷ ds) rest h = run_digit d (ds ++ line_feed ∷ rest) h.0 ∙ ap suc (run_line ds rest h.1)
 
 -- a place that holds a line feed lies within the text
@@ -62,7 +68,7 @@ line_found text number l rest h =
       sym (take-append-drop k text) ∙ ap (λ t. t ++ drop k text) (sym s.front) ∙ ap (λ t. l ++ t) tail,
     )
 
-drop_past : (l : List ℕ) (b : ℕ) (rest : List ℕ) → drop (suc (length l)) (l ++ b ∷ rest) ≡ rest
+pub drop_past : (l : List ℕ) (b : ℕ) (rest : List ℕ) → drop (suc (length l)) (l ++ b ∷ rest) ≡ rest
 drop_past [] b rest = refl
 drop_past (d ∷ ds) b rest = drop_past ds b rest
 

@@ -1,3 +1,2 @@
-pub mod Runs
 pub mod Found
-pub mod FirstByte
+pub mod Written

@@ -1,6 +1,6 @@
 -- Frames: what the digits of a line say. The first byte is the kind, and what follows it is one byte for a value and four
 -- for a mask. Assumes nothing.
-use Rattle.std.specs.Prelude.{ℕ, ◌-◌, cond, ◌&&◌, List, [], ◌∷◌, length, drop, Ok, Err, Result, ◌==◌, nat_le, slice_index}
+use Rattle.std.specs.Prelude.{◌≡◌, ℕ, ◌-◌, ◌≤◌, cond, ◌&&◌, List, [], ◌∷◌, length, drop, Ok, Err, Result, MatchResult, ◌==◌, nat_le, slice_index}
 use Rattle.std.specs.Borrow.{Bor}
 use Rattle.frames.specs.Digits.{byte_at, mask_at}
 use Rattle.frames.specs.Lines.{first_line}
@@ -11,6 +11,9 @@ use Rattle.frames.specs.declared.faults.FrameFault.TheVariants.{UnknownKind, Wro
 use Rattle.frames.specs.declared.faults.LineFault.{LineFault}
 use Rattle.frames.specs.declared.frame.Frame.{Frame as Borrowed}
 use Rattle.frames.specs.declared.frame.Frame.TheVariants as borrowed
+use Rattle.frames.specs.declared.kind.Kind.{Kind}
+use Rattle.frames.specs.declared.kind.Kind.TheVariants.{Header, Site, Table, Step, Counter, Play}
+use Rattle.frames.specs.declared.kind.NotKind.{NotKind}
 
 -- a frame's kind and values
 pub data Frame : Type 0 where
@@ -29,6 +32,19 @@ kind (table r n q a) = 3
 kind (step r p e q) = 4
 kind (counter u d l) = 5
 kind (play e) = 6
+
+-- the number of a kind
+abbrev pub kind_number : Kind → ℕ
+kind_number Header = 1
+kind_number Site = 2
+kind_number Table = 3
+kind_number Step = 4
+kind_number Counter = 5
+kind_number Play = 6
+
+-- the kind that has this number, or none where no kind has it
+abbrev pub Decodes : ℕ → Result Kind NotKind → Type 0
+Decodes k r = MatchResult r (λ x. kind_number x ≡ k) (λ _. (1 ≤ k) × (k ≤ 6) → ⊥)
 
 -- how many digits a line has, by the number of its kind
 abbrev pub line_lengths : List ℕ
@@ -79,21 +95,21 @@ read_frame text number = of_line number (first_line text number)
 
 -- what a borrowed frame says
 abbrev pub content : Borrowed → Frame
-content (borrowed.Header ds n) = header_of ds.now
-content (borrowed.Site ds n) = site_of ds.now
-content (borrowed.Table ds n) = table_of ds.now
-content (borrowed.Step ds n) = step_of ds.now
-content (borrowed.Counter ds n) = counter_of ds.now
-content (borrowed.Play ds n) = play_of ds.now
+content (borrowed.Header p) = header_of p.digits.now
+content (borrowed.Site p) = site_of p.digits.now
+content (borrowed.Table p) = table_of p.digits.now
+content (borrowed.Step p) = step_of p.digits.now
+content (borrowed.Counter p) = counter_of p.digits.now
+content (borrowed.Play p) = play_of p.digits.now
 
 -- and the number of its line
 abbrev pub number_of : Borrowed → ℕ
-number_of (borrowed.Header ds n) = n
-number_of (borrowed.Site ds n) = n
-number_of (borrowed.Table ds n) = n
-number_of (borrowed.Step ds n) = n
-number_of (borrowed.Counter ds n) = n
-number_of (borrowed.Play ds n) = n
+number_of (borrowed.Header p) = p.line
+number_of (borrowed.Site p) = p.line
+number_of (borrowed.Table p) = p.line
+number_of (borrowed.Step p) = p.line
+number_of (borrowed.Counter p) = p.line
+number_of (borrowed.Play p) = p.line
 
 abbrev pub opened : Result Borrowed FrameFault → Result Frame FrameFault
 opened (Ok f) = Ok (content f)

@@ -1,6 +1,7 @@
 -- Lines: what line a text begins with. Assumes nothing.
 use Rattle.std.specs.Prelude.{◌≡◌, ℕ, suc, ◌%◌, ◌≤◌, true, cond, ◌&&◌, List, [], ◌∷◌, ◌++◌, length, take, drop, Ok, Err, Result, ◌==◌, nat_le, slice_index}
 use Rattle.std.specs.Borrow.{Bor}
+use Rattle.std.specs.List.{prefix_len}
 use Rattle.frames.specs.Digits.{digital}
 use Rattle.frames.specs.declared.faults.LineFault.{LineFault}
 use Rattle.frames.specs.declared.faults.LineFault.TheVariants.{Malformed}
@@ -28,9 +29,8 @@ abbrev pub NoLine : List ℕ → Type 0
 NoLine text = (l rest : List ℕ) → BeginsWith text l rest → ⊥
 
 -- how many digits a text begins with
-unfoldable pub run : List ℕ → ℕ
-run [] = 0
-run (b ∷ bs) = cond (digital b) (suc (run bs)) 0
+abbrev pub run : List ℕ → ℕ
+run text = prefix_len digital text
 
 -- the digits of the first line and the text after its line feed, or the fault of a text that begins with no line
 abbrev pub first_line : List ℕ → ℕ → Result (List ℕ × List ℕ) LineFault

@@ -5,6 +5,8 @@ use Rattle.frames.specs.declared.faults.Fault.{Fault}
 use Rattle.frames.specs.declared.faults.Fault.TheVariants.{Line, Frame}
 use Rattle.frames.specs.declared.faults.FrameFault.{FrameFault}
 use Rattle.frames.specs.declared.faults.FrameFault.TheVariants.{Ended, NotDue, OutOfRange, SecondStep, UnknownKind, WrongLength}
+use Rattle.frames.specs.declared.faults.Layer.{Layer}
+use Rattle.frames.specs.declared.faults.Layer.TheVariants as layer
 use Rattle.frames.specs.declared.faults.LineFault.{LineFault}
 use Rattle.frames.specs.declared.faults.LineFault.TheVariants.{Malformed, TooLong}
 
@@ -36,9 +38,19 @@ fault_line (Frame (OutOfRange n)) = n
 fault_line (Frame (Ended n)) = n
 fault_line (Frame (SecondStep n)) = n
 
+-- the number of a layer, and the layer that has the fault
+abbrev pub layer_number : Layer → ℕ
+layer_number layer.Line = 1
+layer_number layer.Frame = 2
+layer_number layer.Make = 3
+layer_number layer.Check = 4
+
+abbrev pub layer_of : Fault → Layer
+layer_of (Line why) = layer.Line
+layer_of (Frame why) = layer.Frame
+
 abbrev pub fault_layer : Fault → ℕ
-fault_layer (Line why) = 1
-fault_layer (Frame why) = 2
+fault_layer why = layer_number (layer_of why)
 
 -- the digit of a value below 16, as a character
 unfoldable pub hex : ℕ → ℕ

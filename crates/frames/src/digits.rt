@@ -32,13 +32,13 @@ fn nibble(digits: &[u8], place: usize) -> u8
     ensures value { result ≡ nibble_at digits.now place }
     ensures bound { result < 16 }
 {
-    match digits.get(place) {
-        Some(b) => digit(*b as char).unwrap_or(0),
-        None => 0,
-    }
+    digits
+        .get(place)
+        .map_or(0, |b| digit(*b as char).unwrap_or(0))
 }
 
 // The byte that the two digits from a place on write.
+#[tactic(auto, unfolding(crate::specs::Digits::pair_at))]
 fn pair(digits: &[u8], place: usize) -> u8
     requires { place < 2 ^ 32 }
     ensures { result ≡ pair_at digits.now place }
@@ -58,7 +58,10 @@ pub fn mask(digits: &[u8], place: u8) -> Mask
     ensures { result ≡ mask_at digits.now place }
 {
     let first = place as u16;
-    16_777_216 * byte(digits, first) as Mask
-        + (65_536 * byte(digits, first + 1) as Mask
-            + (256 * byte(digits, first + 2) as Mask + byte(digits, first + 3) as Mask))
+    Mask::from_be_bytes([
+        byte(digits, first),
+        byte(digits, first + 1),
+        byte(digits, first + 2),
+        byte(digits, first + 3),
+    ])
 }

@@ -1,6 +1,15 @@
-// Faults: an enum for each layer. Each case holds the number of the line that has the fault, counted from 1.
+// Faults: an enum for each layer of the text. Each case holds the number of the line that has the fault, counted from 1.
 ghost use Rattle.std.specs.Prelude.{◌≡◌};
 ghost use Rattle.frames.specs.declared.faults.Fault.TheVariants.{Line, Frame};
+
+// The layers of faults, with their numbers: the text's lines and frames, and what is made and checked of it.
+#[derive(Clone, Copy, PartialEq, Eq, Debug)]
+pub enum Layer {
+    Line = 1,
+    Frame = 2,
+    Make = 3,
+    Check = 4,
+}
 
 // Faults of the line layer.
 #[derive(Clone, Copy, PartialEq, Eq, Debug)]
@@ -25,7 +34,7 @@ pub enum FrameFault {
     SecondStep(u16),
 }
 
-// A fault of any layer.
+// A fault of a line or of a frame.
 #[derive(Clone, Copy, PartialEq, Eq, Debug)]
 pub enum Fault {
     Line(LineFault),

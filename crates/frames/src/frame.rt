@@ -1,27 +1,23 @@
 // Frames: what a line is.
-ghost use Rattle.std.specs.Prelude.{◌≡◌, ◌≤◌, length, drop, IfOk};
-ghost use Rattle.frames.specs.Frames.{content, contents, frame_at, frame_of, number_of, opened, read_frame};
+ghost use Rattle.std.specs.Prelude.{◌≡◌, IfOk};
+ghost use Rattle.frames.specs.Frames.{content, contents, frame_at, frame_of, kind_number, number_of, opened, read_frame};
 
 use crate::digits::byte;
 use crate::faults::{Fault, FrameFault};
+use crate::kind::Kind;
 use crate::lines::line;
+use crate::payload::Payload;
 
-// The kinds of frame, each with the digits after its kind and the number of its line.
+// A frame of each kind.
 #[derive(Clone, Copy)]
 pub enum Frame<'a> {
-    Header(&'a [u8], u16),
-    Site(&'a [u8], u16),
-    Table(&'a [u8], u16),
-    Step(&'a [u8], u16),
-    Counter(&'a [u8], u16),
-    Play(&'a [u8], u16),
+    Header(Payload<'a>),
+    Site(Payload<'a>),
+    Table(Payload<'a>),
+    Step(Payload<'a>),
+    Counter(Payload<'a>),
+    Play(Payload<'a>),
 }
-
-// How many kinds there are, numbered from 1.
-const KINDS: u8 = 6;
-
-// How many digits a line has, by the number of its kind.
-pub const LINE_LENGTHS: [usize; 6] = [14, 20, 16, 10, 8, 4];
 
 impl<'a> Frame<'a> {
     // The frame that a deck begins with, and the rest of the deck.
@@ -39,12 +35,27 @@ impl<'a> Frame<'a> {
         ensures { result ≡ number_of self.entry }
     {
         match self {
-            Frame::Header(_, number)
-            | Frame::Site(_, number)
-            | Frame::Table(_, number)
-            | Frame::Step(_, number)
-            | Frame::Counter(_, number)
-            | Frame::Play(_, number) => number,
+            Frame::Header(payload)
+            | Frame::Site(payload)
+            | Frame::Table(payload)
+            | Frame::Step(payload)
+            | Frame::Counter(payload)
+            | Frame::Play(payload) => payload.line,
+        }
+    }
+
+    // The frame of a kind that holds this.
+    fn of_kind(kind: Kind, payload: Payload<'a>) -> Frame<'a>
+        ensures value { content result ≡ frame_of (kind_number kind) payload.entry.digits.now }
+        ensures number { number_of result ≡ payload.entry.line }
+    {
+        match kind {
+            Kind::Header => Frame::Header(payload),
+            Kind::Site => Frame::Site(payload),
+            Kind::Table => Frame::Table(payload),
+            Kind::Step => Frame::Step(payload),
+            Kind::Counter => Frame::Counter(payload),
+            Kind::Play => Frame::Play(payload),
         }
     }
 }
@@ -54,35 +65,13 @@ fn classify(digits: &[u8], number: u16) -> Result<Frame<'_>, FrameFault>
     ensures value { opened result ≡ frame_at digits.now number }
     ensures number { IfOk result (λ f. number_of f ≡ number) }
 {
-    let kind = byte(digits, 0);
-    if kind < 1 || kind > KINDS {
-        return Err(FrameFault::UnknownKind(number));
-    }
-    if digits.len() != LINE_LENGTHS[kind as usize - 1] {
+    let kind = Kind::try_from(byte(digits, 0)).map_err(|_| FrameFault::UnknownKind(number))?;
+    if digits.len() != kind.line_length() {
         return Err(FrameFault::WrongLength(number));
     }
-    Ok(of_kind(kind, after_kind(digits), number))
-}
-
-// The digits after the kind.
-fn after_kind(digits: &[u8]) -> &[u8]
-    requires { 2 ≤ length digits.now }
-    ensures { result.now ≡ drop 2 digits.now }
-{
-    &digits[2..]
-}
-
-// The frame of a kind with these digits after it.
-fn of_kind(kind: u8, digits: &[u8], number: u16) -> Frame<'_>
-    ensures value { content result ≡ frame_of kind digits.now }
-    ensures number { number_of result ≡ number }
-{
-    match kind {
-        1 => Frame::Header(digits, number),
-        2 => Frame::Site(digits, number),
-        3 => Frame::Table(digits, number),
-        4 => Frame::Step(digits, number),
-        5 => Frame::Counter(digits, number),
-        _ => Frame::Play(digits, number),
-    }
+    let payload = Payload {
+        digits: &digits[2..],
+        line: number,
+    };
+    Ok(Frame::of_kind(kind, payload))
 }

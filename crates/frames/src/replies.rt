@@ -1,13 +1,22 @@
 // The reply that a fault becomes.
-ghost use Rattle.std.specs.Prelude.{◌≡◌, ◌/◌, ◌%◌, ◌<◌, [], ◌∷◌};
-ghost use Rattle.frames.specs.Replies.{fault_layer, fault_line, fault_number, fault_reply, frame_number, hex, line_number, written};
+ghost use Rattle.std.specs.Prelude.{◌≡◌, ◌/◌, ◌%◌, ◌<◌};
+ghost use Rattle.frames.specs.Replies.{fault_layer, fault_line, fault_number, fault_reply, frame_number, hex, layer_number, layer_of, line_number, written};
 
-use crate::faults::{Fault, FrameFault, LineFault};
+use crate::faults::{Fault, FrameFault, Layer, LineFault};
 use crate::lines::LINE_FEED;
 
 // The first byte of the reply.
 const FAULT: u8 = 0x8F;
 
+impl Layer {
+    pub fn number(self) -> u8
+        ensures { result ≡ layer_number self }
+    {
+        self as u8
+    }
+}
+
+// Kept: the cases of `LineFault` and `FrameFault` hold their line, and so have no numbers of their own.
 impl LineFault {
     pub fn number(self) -> u8
         ensures { result ≡ line_number self }
@@ -35,12 +44,12 @@ impl FrameFault {
 }
 
 impl Fault {
-    pub fn layer(self) -> u8
-        ensures { result ≡ fault_layer self }
+    pub fn layer(self) -> Layer
+        ensures { result ≡ layer_of self }
     {
         match self {
-            Fault::Line(_) => 1,
-            Fault::Frame(_) => 2,
+            Fault::Line(_) => Layer::Line,
+            Fault::Frame(_) => Layer::Frame,
         }
     }
 
@@ -75,34 +84,29 @@ impl Fault {
     pub fn reply(self) -> [u8; 11]
         ensures { result ≡ fault_reply (fault_layer self) (fault_line self) (fault_number self) }
     {
-        reply(self.layer(), self.line(), self.number())
+        reply(self.layer().number(), self.line(), self.number())
     }
 }
 
 // The line that answers a fault of any layer.
+// Kept: the layer is a number here, as in the line, which may hold any; who has a `Layer` gives its number.
 pub fn reply(layer: u8, line: u16, number: u8) -> [u8; 11]
     ensures { result ≡ fault_reply layer line number }
 {
-    written_out(FAULT, layer, (line / 256) as u8, (line % 256) as u8, number)
+    let [high, low] = line.to_be_bytes();
+    written_out([FAULT, layer, high, low, number])
 }
 
 // The line that five bytes are written as.
-fn written_out(kind: u8, layer: u8, high: u8, low: u8, number: u8) -> [u8; 11]
-    ensures { result ≡ written (kind ∷ layer ∷ high ∷ low ∷ number ∷ []) }
+fn written_out(bytes: [u8; 5]) -> [u8; 11]
+    ensures { result ≡ written bytes }
 {
-    [
-        high_digit(kind),
-        low_digit(kind),
-        high_digit(layer),
-        low_digit(layer),
-        high_digit(high),
-        low_digit(high),
-        high_digit(low),
-        low_digit(low),
-        high_digit(number),
-        low_digit(number),
-        LINE_FEED,
-    ]
+    let mut line = [LINE_FEED; 11];
+    for (i, byte) in bytes.iter().enumerate() {
+        line[2 * i] = high_digit(*byte);
+        line[2 * i + 1] = low_digit(*byte);
+    }
+    line
 }
 
 // The first of a byte's two digits.
@@ -119,6 +123,7 @@ pub fn low_digit(byte: u8) -> u8
     hex_digit(byte % 16)
 }
 
+#[tactic(auto, unfolding(crate::specs::Replies::hex))]
 fn hex_digit(value: u8) -> u8
     requires { value < 16 }
     ensures { result ≡ hex value }

@@ -10,19 +10,12 @@ ghost use Rattle.fuse.specs.Answers.{Answers};
 
 use decks::MOST_BYTES;
 use failure::Failure;
-use run::{LEAST_OUTPUT, run};
+use run::{CELLS, LEAST_OUTPUT, RECORDS, run};
 use std::alloc::Global;
 use std::io;
 use std::io::{ErrorKind, Read, Write};
 use std::process::ExitCode;
 use theory::Move;
-
-// What a run is lent.
-const CELLS: usize = 8_192;
-
-const RECORDS: usize = 256;
-
-const BLANK: Move = Move { event: 0, mover: 0 };
 
 // One byte more than a deck may have: so many show that a deck is too long.
 const MOST_READ: u64 = MOST_BYTES as u64 + 1;
@@ -39,7 +32,7 @@ fn replies_to(heap: Global, text: &[u8]) -> Result<Vec<u8>, Failure>
     ensures { MatchResult result (λ replies. Answers text.now replies.items) (λ failure. failure ≡ Failure.Running) }
 {
     let mut cells = vec![in heap; 0; CELLS]?;
-    let mut trace = vec![in heap; BLANK; RECORDS]?;
+    let mut trace = vec![in heap; Move::default(); RECORDS]?;
     let mut out = vec![in heap; 0; LEAST_OUTPUT]?;
     match run(heap, text, &mut cells, &mut trace, &mut out) {
         Ok(count) => {
@@ -57,10 +50,9 @@ fn fuse(rt: &HostRuntime) -> Result<(), Failure> {
         Err(_) => return Err(Failure::Reading),
     };
     let replies = replies_to(rt.alloc(), text.as_slice())?;
-    match rt.stdout().write_all(replies.as_slice()) {
-        Ok(()) => Ok(()),
-        Err(_) => Err(Failure::Writing),
-    }
+    rt.stdout()
+        .write_all(replies.as_slice())
+        .map_err(|_| Failure::Writing)
 }
 
 fn main(rt: HostRuntime) -> ExitCode {

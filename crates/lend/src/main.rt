@@ -4,14 +4,13 @@
 #![tactic(auto)]
 
 use checking::{Refusal, Verdict, check};
-use control::Problem;
+use control::{Arrangement, Problem};
 use plants::Table;
 use std::alloc::{AllocError, Global};
 use std::io;
 use theory::Move;
 
-const BLANK: Move = Move { event: 0, mover: 0 };
-
+// Kept: the tour has these numbers too, and each program is read by itself.
 // Site 1 sees event 0, site 2 sees event 1, and both control event 2.
 fn problem() -> Problem {
     let mut problem = Problem::new();
@@ -22,8 +21,8 @@ fn problem() -> Problem {
 // Each step is a state, an event and the next state.
 fn table(heap: Global, count: u8, steps: &[[u8; 3]]) -> Result<Table, AllocError> {
     let mut table = Table::empty(heap, count, 0, 7)?;
-    for step in steps {
-        let _ = table.put(step[0], step[1], step[2]);
+    for [from, event, to] in steps {
+        let _ = table.put(*from, *event, *to);
     }
     Ok(table)
 }
@@ -37,8 +36,10 @@ fn ask(heap: Global, cells: usize, moves: usize) -> Result<Result<Verdict, Refus
     )?;
     let spec = table(heap, 2, &[[0, 0, 1], [0, 1, 1], [1, 2, 1]])?;
     let mut cells = vec![in heap; 0; cells]?;
-    let mut trace = vec![in heap; BLANK; moves]?;
-    Ok(check(&problem(), &plant, &spec, &mut cells, &mut trace))
+    let mut trace = vec![in heap; Move::default(); moves]?;
+    let problem = problem();
+    let arrangement = Arrangement::new(&problem, &plant, &spec);
+    Ok(check(&arrangement, &mut cells, &mut trace))
 }
 
 fn tell(rt: &HostRuntime, cells: usize, moves: usize) -> io::Result<()> {

@@ -1,8 +1,8 @@
 -- A grid of 400 rows and columns, whose node at (row, col) is row * 400 + col, open or with walls.
 -- Assumes nothing.
-use Rattle.std.specs.Prelude.{◌≡◌, ℕ, ◌+◌, ◌-◌, ◌*◌, ◌/◌, ◌%◌, ◌<◌, Bool, true, false, cond, not, ◌&&◌, Some, None, Option, ◌==◌, nat_lt, refl}
-use Rattle.std.proofs.Common.{sym, inl, inr, arith, lit<, lit≤}
-use Rattle.std.proofs.lemmas.Bool.{cases_cond, and_parts, ltb-true}
+use Rattle.std.specs.Prelude.{◌≡◌, ℕ, ◌+◌, ◌-◌, ◌*◌, ◌/◌, ◌%◌, ◌<◌, Bool, cond, not, ◌&&◌, Some, None, Option, ◌==◌, nat_lt}
+use Rattle.std.proofs.Common.{arith, lit<, lit≤}
+use Rattle.std.proofs.lemmas.Bool.{cond_both, and_parts, ltb-true}
 use Rattle.search.specs.Digraphs.{Digraph, Sound}
 
 -- the column of the gap in an odd row
@@ -33,30 +33,27 @@ grid walled = record {
 }
 
 -- a node that is not a wall is a node of the grid
-node_within : (walled : Bool) (row col w : ℕ) → row < 400 → col < 400 → node_at walled row col ≡ Some w → w < 160000
-node_within walled row col w a b e =
-    elim (cases_cond (is_wall walled row col) None (Some (row * 400 + col)) (Some w) (sym e)) [
-      | inl t ↦ let z : ◌≡◌ {A = ℕ} 0 1 = cc in absurd (omega arith)
-      | inr t ↦ let is : w ≡ row * 400 + col = cc in omega arith
-    ]
+abbrev Within : Option ℕ → Type 0
+Within o = (w : ℕ) → o ≡ Some w → w < 160000
 
--- what follows from either branch of a test
-by_test : (b : Bool) (x y : Option ℕ) (w : ℕ) (P : Type 0) → cond b x y ≡ Some w → (b ≡ true → x ≡ Some w → P) → (y ≡ Some w → P) → P
-by_test true x y w P e yes_way no_way = yes_way refl e
-by_test false x y w P e yes_way no_way = no_way e
+none_within : Within None
+none_within w e = let z : ◌≡◌ {A = ℕ} 0 1 = cc in absurd (omega arith)
+
+node_within : (walled : Bool) (row col : ℕ) → row < 400 → col < 400 → Within (node_at walled row col)
+node_within walled row col a b =
+    cond_both (is_wall walled row col) None (Some (row * 400 + col)) Within (λ _. none_within) (λ _ w e. let is : w ≡ row * 400 + col = cc in omega arith)
 
 -- a move leads to a node of the grid
-moved_within : (walled : Bool) (row col m w : ℕ) → row < 400 → col < 400 → moved walled row col m ≡ Some w → w < 160000
-moved_within walled row col m w a b e =
-    by_test (m == 0 && nat_lt 0 row) _ _ w _ e (λ t. node_within walled (row - 1) col w (omega arith) b) (λ e1.
-    by_test (m == 1 && nat_lt (col + 1) 400) _ _ w _ e1 (λ t. node_within walled row (col + 1) w a (omega (arith, ltb-true (col + 1) 400 (and_parts (m == 1) (nat_lt (col + 1) 400) t).1))) (λ e2.
-    by_test (m == 2 && nat_lt (row + 1) 400) _ _ w _ e2 (λ t. node_within walled (row + 1) col w (omega (arith, ltb-true (row + 1) 400 (and_parts (m == 2) (nat_lt (row + 1) 400) t).1)) b) (λ e3.
-    by_test (m == 3 && nat_lt 0 col) _ _ w _ e3 (λ t. node_within walled row (col - 1) w a (omega arith)) (λ e4.
-    let z : ◌≡◌ {A = ℕ} 0 1 = cc in absurd (omega arith)))))
+moved_within : (walled : Bool) (row col m : ℕ) → row < 400 → col < 400 → Within (moved walled row col m)
+moved_within walled row col m a b =
+    cond_both (m == 0 && nat_lt 0 row) _ _ Within (λ _. node_within walled (row - 1) col (omega arith) b) (λ _.
+    cond_both (m == 1 && nat_lt (col + 1) 400) _ _ Within (λ t. node_within walled row (col + 1) a (omega (arith, ltb-true (col + 1) 400 (and_parts (m == 1) (nat_lt (col + 1) 400) t).1))) (λ _.
+    cond_both (m == 2 && nat_lt (row + 1) 400) _ _ Within (λ t. node_within walled (row + 1) col (omega (arith, ltb-true (row + 1) 400 (and_parts (m == 2) (nat_lt (row + 1) 400) t).1)) b) (λ _.
+    cond_both (m == 3 && nat_lt 0 col) _ _ Within (λ _. node_within walled row (col - 1) a (omega arith)) (λ _. none_within))))
 
 pub grid_sound : (walled : Bool) → Sound (grid walled)
 grid_sound walled = record {
   small = lit≤ tt;
   starts = lit< tt;
-  closed = λ v m w a b e. moved_within walled (v / 400) (v % 400) m w (omega arith) (omega arith) e;
+  closed = λ v m w a b e. moved_within walled (v / 400) (v % 400) m (omega arith) (omega arith) w e;
 }

@@ -20,16 +20,14 @@ use std::io;
 
 // Searches one grid, and prints what came of it.
 fn run(rt: HostRuntime, walled: bool, cells: &mut [u64]) -> io::Result<()> {
-    let opened = Cell::new(0u64);
-    let tried = Cell::new(0u64);
     let grid = Grid {
         walled,
-        opened: &opened,
-        tried: &tried,
+        opened: Cell::new(0),
+        tried: Cell::new(0),
     };
     let answer = search(&grid, cells);
-    let opened = opened.get();
-    let tried = tried.get();
+    let opened = grid.opened.get();
+    let tried = grid.tried.get();
     match answer {
         Ok(Some(moves)) => println!(rt;
             "{moves} moves to the goal, {opened} nodes opened, {tried} moves tried"

@@ -30,29 +30,30 @@ pub fn print_parts(rt: &HostRuntime) -> io::Result<()> {
     };
     numbers(rt, &deck)?;
     machines(rt, &deck)?;
-    let plays = deck.plays.as_slice();
-    println!(rt; "plays: {plays:?}")
+    println!(rt; "plays: {:?}", deck.plays)
 }
 
 fn numbers(rt: &HostRuntime, deck: &Deck) -> io::Result<()> {
-    let events = deck.events;
-    let sites = deck.sites;
-    let modes = deck.modes;
-    println!(rt; "events: {events}, sites: {sites}, modes: {modes}")?;
-    let seen = deck.seen;
-    let controlled = deck.controlled;
-    println!(rt; "seen: {seen:?}, controlled: {controlled:?}")
+    println!(rt;
+        "events: {}, sites: {}, modes: {}",
+        deck.events, deck.sites, deck.modes
+    )?;
+    println!(rt; "seen: {:?}, controlled: {:?}", deck.seen, deck.controlled)
 }
 
 fn machines(rt: &HostRuntime, deck: &Deck) -> io::Result<()> {
-    let states = deck.plant.count();
-    let alphabet = deck.plant.alphabet();
-    println!(rt; "plant: {states} states, alphabet {alphabet}")?;
+    println!(rt;
+        "plant: {} states, alphabet {}",
+        deck.plant.count(),
+        deck.plant.alphabet()
+    )?;
     for event in 0..deck.events {
         let next = deck.plant.step(deck.plant.first(), event);
         println!(rt; "plant on {event}: {next:?}")?;
     }
-    let states = deck.spec.count();
-    let next = deck.spec.step(1, 2);
-    println!(rt; "specification: {states} states, from 1 on 2: {next:?}")
+    println!(rt;
+        "specification: {} states, from 1 on 2: {:?}",
+        deck.spec.count(),
+        deck.spec.step(1, 2)
+    )
 }

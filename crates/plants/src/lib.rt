@@ -9,7 +9,7 @@ mod product;
 mod table;
 
 pub use counter::Counter;
-pub use masks::{contains, singleton};
+pub use masks::{contains, is_below, singleton};
 pub use plant::{EVENTS, Event, MOST_STATES, Mask, Plant, State};
 pub use product::Product;
 pub use table::{Misfit, Table};

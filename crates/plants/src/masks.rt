@@ -25,3 +25,10 @@ pub fn singleton(event: Event) -> Mask
 {
     if event < EVENTS { 1 << event } else { 0 }
 }
+
+// Whether a mask has no bit at or above an event count, for any number as count.
+pub fn is_below(mask: Mask, events: u8) -> bool
+    ensures { result ≡ nat_lt mask (2 ^ events) }
+{
+    events >= EVENTS || mask < 1 << events
+}

@@ -3,63 +3,48 @@
 #![tactic(auto)]
 
 ghost use Rattle.std.specs.Prelude.{◌≡◌};
-ghost use Rattle.control.specs.Problems.{setup};
-ghost use Rattle.control.specs.Systems.{system};
+ghost use Rattle.control.specs.Arrangements.{meant};
 ghost use Rattle.sessions.specs.Status.{status};
-ghost use Rattle.replies.specs.Plays.{after_play, cast, cast_to, outcome_number, play_reply, ready};
+ghost use Rattle.replies.specs.Plays.{after_play, cast_to, play_reply, ready};
 ghost use Rattle.replies.specs.Writing.{reply};
 
-use control::Problem;
-use plants::{Event, Plant, State};
+use control::Arrangement;
+use plants::{Event, Plant};
 use replies::Reply;
-use sessions::{Refusal, Session};
+use sessions::Session;
 
 // Plays an event on a session, and answers the reply to it.
+// Kept: a session and an arrangement make no struct, since a session keeps none and is brought one at every call.
+#[tactic(auto, unfolding(replies::specs::Plays::after_play))]
 pub fn play<P: Plant, S: Plant>(
     session: &mut Session,
-    problem: &Problem,
-    plant: &P,
-    spec: &S,
+    arrangement: &Arrangement<'_, P, S>,
     event: Event,
 ) -> Reply
-    ensures value { reply result ≡ play_reply (system (setup problem.now) (P.Plant.meaning plant.now) (S.Plant.meaning spec.now)) (status session.old) event }
-    ensures after { status session.new ≡ after_play (system (setup problem.now) (P.Plant.meaning plant.now) (S.Plant.meaning spec.now)) (status session.old) event }
+    ensures value { reply result ≡ play_reply (meant arrangement.now) (status session.old) event }
+    ensures after { status session.new ≡ after_play (meant arrangement.now) (status session.old) event }
 {
-    prepare(session, problem, plant, spec);
+    prepare(session, arrangement);
     let allowed = session.allowed();
-    let outcome = session.happen(problem, plant, spec, event);
-    Reply::Played(event, allowed, number(outcome))
+    let outcome = session.happen(arrangement, event);
+    Reply::Played(event, allowed, outcome.err())
 }
 
 // Casts the missing ballots, and settles the round if need be.
-fn prepare<P: Plant, S: Plant>(session: &mut Session, problem: &Problem, plant: &P, spec: &S)
-    ensures { status session.new ≡ ready (system (setup problem.now) (P.Plant.meaning plant.now) (S.Plant.meaning spec.now)) (status session.old) }
+#[tactic(auto, unfolding(replies::specs::Plays::ready))]
+fn prepare<P: Plant, S: Plant>(session: &mut Session, arrangement: &Arrangement<'_, P, S>)
+    ensures { status session.new ≡ ready (meant arrangement.now) (status session.old) }
 {
-    cast_missing(session, problem, plant, spec);
-    let _ = session.settle(problem, plant, spec);
+    cast_missing(session, arrangement);
+    let _ = session.settle(arrangement);
 }
 
 // Asks every site for its ballot. One that has voted is refused, and keeps its vote.
-fn cast_missing<P: Plant, S: Plant>(session: &mut Session, problem: &Problem, plant: &P, spec: &S)
-    ensures { status session.new ≡ cast_to (system (setup problem.now) (P.Plant.meaning plant.now) (S.Plant.meaning spec.now)) (status session.old) (setup problem.now).sites }
+#[tactic(auto, unfolding(replies::specs::Plays::cast_to))]
+fn cast_missing<P: Plant, S: Plant>(session: &mut Session, arrangement: &Arrangement<'_, P, S>)
+    ensures { status session.new ≡ cast_to (meant arrangement.now) (status session.old) (meant arrangement.now).setup.sites }
 {
-    for k in 0..problem.sites() {
-        ask(session, problem, plant, spec, k + 1);
-    }
-}
-
-fn ask<P: Plant, S: Plant>(session: &mut Session, problem: &Problem, plant: &P, spec: &S, site: u8)
-    ensures { status session.new ≡ cast (system (setup problem.now) (P.Plant.meaning plant.now) (S.Plant.meaning spec.now)) (status session.old) site }
-{
-    let _ = session.ballot(problem, plant, spec, site);
-}
-
-// 0 for an event that happened, or the number of the refusal.
-fn number(outcome: Result<State, Refusal>) -> u8
-    ensures { result ≡ outcome_number outcome }
-{
-    match outcome {
-        Ok(_) => 0,
-        Err(refusal) => refusal.number(),
+    for site in 1..=arrangement.problem.sites() {
+        let _ = session.ballot(arrangement, site);
     }
 }

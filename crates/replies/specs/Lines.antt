@@ -1,5 +1,5 @@
 -- Replies, and the lines that they are written as. Assumes nothing.
-use Rattle.std.specs.Prelude.{◌≡◌, ℕ, zero, suc, ◌+◌, ◌/◌, ◌%◌, cond, List, [], ◌∷◌, ◌++◌, length, take, drop}
+use Rattle.std.specs.Prelude.{◌≡◌, ℕ, zero, suc, ◌/◌, ◌%◌, cond, List, [], ◌∷◌, ◌++◌, length, take, drop}
 use Rattle.control.specs.Setup.{Setup}
 use Rattle.theory.specs.declared.moves.Move.{Move}
 use Rattle.checking.specs.Traces.{string_of}
@@ -34,11 +34,14 @@ abbrev pub text_of : List Reply → List ℕ
 text_of [] = []
 text_of (r ∷ rs) = written (bytes_of r) ++ text_of rs
 
+-- the string of site i, if it is a controller of e
+abbrev pub string_if : Setup → ℕ → List Move → ℕ → List Reply
+string_if p e run i = cond (p.controls i e) (string i (string_of p i run) ∷ []) []
+
 -- the strings of the controllers of e among the sites 1 to i, rising
 abbrev pub strings_to : Setup → ℕ → List Move → ℕ → List Reply
 strings_to p e run zero = []
-strings_to p e run (suc i) =
-    strings_to p e run i ++ cond (p.controls (suc i) e) (string (suc i) (string_of p (suc i) run) ∷ []) []
+strings_to p e run (suc i) = strings_to p e run i ++ string_if p e run (suc i)
 
 -- the replies to a clash at e, which a run shows: the strings of component 0 and of each controller, rising
 abbrev pub clash_replies : Setup → ℕ → List Move → List Reply
@@ -49,9 +52,9 @@ abbrev pub digits : List ℕ → List ℕ
 digits [] = []
 digits (b ∷ bs) = hex (b / 16) ∷ hex (b % 16) ∷ digits bs
 
--- the bytes stand from place i to place j of an output, and the rest of it is as it was
-pub record Appends (out out' : List ℕ) (i j : ℕ) (bytes : List ℕ) : Type 0 where
-  pub count : j ≡ i + length bytes
-  pub front : take j out' ≡ take i out ++ bytes
-  pub past : drop j out' ≡ drop j out
+-- the bytes stand at the front of an output, n of them, and the rest of it is as it was
+pub record Begins (out out' : List ℕ) (n : ℕ) (bytes : List ℕ) : Type 0 where
+  pub count : n ≡ length bytes
+  pub front : take n out' ≡ bytes
+  pub past : drop n out' ≡ drop n out
   pub same_length : length out' ≡ length out

@@ -2,8 +2,7 @@
 -- the plays among them stay legal. A text tells one thing only, so what holds of the deck that was read holds of whatever the
 -- text tells. Assumes nothing.
 use Rattle.std.proofs.Common.{◌≡◌, ℕ, ◌≤◌, cond, List, ◌∷◌, take, Ok, Err, refl, subst, arith}
-use Rattle.control.specs.Setup.{Setup}
-use Rattle.control.specs.Systems.{System, Keeps, system}
+use Rattle.control.specs.Systems.{System, Keeps}
 use Rattle.theory.specs.declared.moves.Move.{Move}
 use Rattle.checking.specs.declared.verdict.Refusal.{Refusal as Unchecked}
 use Rattle.checking.specs.declared.verdict.Verdict.{Verdict}
@@ -13,9 +12,9 @@ use Rattle.sessions.specs.Status.{Status}
 use Rattle.decks.specs.Decks.{Reads, Tells}
 use Rattle.decks.specs.Said.{Said}
 use Rattle.decks.proofs.Unique.{tells_once}
-use Rattle.replies.specs.Decks.{check_replies, makes, most_moves, said_plant, said_setup, said_system}
+use Rattle.replies.specs.Decks.{check_replies, makes, most_moves, said_system}
 use Rattle.replies.specs.Decks.Gets.{unread, unmade, checked}
-use Rattle.replies.specs.Lines.{Appends, clear, clash_replies, text_of}
+use Rattle.replies.specs.Lines.{Begins, clear, text_of}
 use Rattle.replies.specs.Plays.{PlaysStayLegal, play_replies}
 use Rattle.plays.proofs.Legality.{plays_stay_legal}
 use Rattle.control.specs.declared.problem.Unmade.{Unmade}
@@ -34,47 +33,30 @@ module _ (text cells : List ℕ) (trace : List Move) (out : List ℕ) where
   pub unmade_answered : (x : Said) (why : Unmade) → Tells text x → makes x ≡ Err why → Answered text cells cells trace trace out out (Err (Faulty (Make why)))
   unmade_answered x why tells is = (unmade x why tells is refl refl, refl)
 
-module _ (text cells cells' : List ℕ) (trace trace' : List Move) (out out' : List ℕ) (x : Said) (tells : Tells text x) (is : makes x ≡ Ok tt) where
-  -- the system of a problem that was made of the deck
-  abbrev made : Setup → System
-  made p = system p (said_plant x) x.spec
-
-  pub unchecked_answered : (p : Setup) → p ≡ said_setup x → (why : Unchecked) → Asked (made p) cells cells' trace trace' (Err why) → out' ≡ out → Answered text cells cells' trace trace' out out' (Err (Faulty (Check why)))
-  unchecked_answered p from why asked same =
-      let told = subst (λ q. Asked (made q) cells cells' trace trace' (Err why)) from asked in
+module _ (text cells cells' : List ℕ) (trace trace' : List Move) (out out' : List ℕ) (x : Said) (tells : Tells text x) (is : makes x ≡ Ok tt) (w : System) (means : w ≡ said_system x) where
+  pub unchecked_answered : (why : Unchecked) → Asked w cells cells' trace trace' (Err why) → out' ≡ out → Answered text cells cells' trace trace' out out' (Err (Faulty (Check why)))
+  unchecked_answered why asked same =
+      let told = subst (λ v. Asked v cells cells' trace trace' (Err why)) means asked in
       (checked x (Err why) tells is told.checked told.past, same)
 
-  pub shown_answered : (p : Setup) → p ≡ said_setup x → (plays : List ℕ) → plays ≡ x.plays → (n : ℕ) → Shown (made p) cells cells' trace trace' plays out out' n → Replied text cells cells' trace trace' out out' n
-  shown_answered p from plays listed n shown =
-      let told = subst (λ es. Shown (said_system x) cells cells' trace trace' es out out' n) listed (subst (λ q. Shown (made q) cells cells' trace trace' plays out out' n) from shown) in
+  pub shown_answered : (plays : List ℕ) → plays ≡ x.plays → (n : ℕ) → Shown w cells cells' trace trace' plays out out' n → Replied text cells cells' trace trace' out out' n
+  shown_answered plays listed n shown =
+      let told = subst (λ es. Shown (said_system x) cells cells' trace trace' es out out' n) listed (subst (λ v. Shown v cells cells' trace trace' plays out out' n) means shown) in
       record {
         replies = check_replies (said_system x) trace' x.plays (Ok told.verdict);
         gets = checked x (Ok told.verdict) tells is told.asked.checked told.asked.past;
         stays_legal = λ y others rest begins. subst (λ z. PlaysStayLegal (said_system z) rest) (tells_once text x y tells others) (told.stays_legal rest begins);
-        count = omega (arith, told.written.count);
-        front = told.written.front;
-        past = told.written.past;
-        same_length = told.written.same_length;
+        written = told.written;
       }
 
 module _ (w : System) (keeps : Keeps w) (few : w.setup.sites ≤ 4) (cells cells' : List ℕ) (trace trace' : List Move) (plays out out' : List ℕ) (n : ℕ) where
   -- a clear verdict, shown by the answers to the plays
-  pub clear_shown : (v : Verdict) (s found : Status) → v ≡ Clear → Asked w cells cells' trace trace' (Ok v) → s ≡ cond (is_clear (Ok v)) (opened w) found → Appends out out' 0 n (text_of (clear ∷ play_replies w s plays)) → Shown w cells cells' trace trace' plays out out' n
+  pub clear_shown : (v : Verdict) (s found : Status) → v ≡ Clear → Asked w cells cells' trace trace' (Ok v) → s ≡ cond (is_clear (Ok v)) (opened w) found → Begins out out' n (text_of (clear ∷ play_replies w s plays)) → Shown w cells cells' trace trace' plays out out' n
   clear_shown Clear s found is asked at written =
       record {
         verdict = Clear;
         asked = asked;
-        written = subst (λ t. Appends out out' 0 n (text_of (clear ∷ play_replies w t plays))) at written;
+        written = subst (λ t. Begins out out' n (text_of (clear ∷ play_replies w t plays))) at written;
         stays_legal = λ rest begins. let same : play_replies w (opened w) plays ≡ rest = cc in subst (PlaysStayLegal w) same (plays_stay_legal w keeps few (cells, cells', take most_moves trace, take most_moves trace', asked.checked) plays);
       }
   clear_shown (Clash e k) s found is asked at written = let z : ◌≡◌ {A = ℕ} 0 1 = cc in absurd (omega arith)
-
-  -- a clash, shown by the strings of its run
-  pub clash_shown : (v : Verdict) (e k : ℕ) → v ≡ Clash e k → Asked w cells cells' trace trace' (Ok v) → Appends out out' 0 n (text_of (clash_replies w.setup e (take k trace'))) → Shown w cells cells' trace trace' plays out out' n
-  clash_shown v e k is asked written =
-      record {
-        verdict = Clash e k;
-        asked = subst (λ x. Asked w cells cells' trace trace' (Ok x)) is asked;
-        written = written;
-        stays_legal = λ rest begins. let z : ◌≡◌ {A = ℕ} 0 1 = cc in absurd (omega arith);
-      }

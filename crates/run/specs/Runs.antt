@@ -10,7 +10,7 @@ use Rattle.frames.specs.Replies.{fault_layer, fault_line, fault_number}
 use Rattle.decks.specs.Decks.{most_bytes}
 use Rattle.decks.specs.Said.{Said}
 use Rattle.replies.specs.Decks.{Gets, StaysLegal, check_replies, makes, most_moves, said_setup}
-use Rattle.replies.specs.Lines.{Appends, Reply, clear, fault, text_of}
+use Rattle.replies.specs.Lines.{Begins, Reply, clear, fault, text_of}
 use Rattle.replies.specs.Plays.{PlaysStayLegal}
 use Rattle.control.specs.declared.problem.Problem.{Problem}
 use Rattle.control.specs.declared.problem.Unmade.{Unmade}
@@ -48,10 +48,7 @@ pub record Replied (text cells cells' : List ℕ) (trace trace' : List Move) (ou
   pub replies : List Reply
   pub gets : Gets text cells cells' trace trace' replies
   pub stays_legal : StaysLegal text replies
-  pub count : n ≡ length (text_of replies)
-  pub front : take n out' ≡ text_of replies
-  pub past : drop n out' ≡ drop n out
-  pub same_length : length out' ≡ length out
+  pub written : Begins out out' n (text_of replies)
 
 -- What running a text answers, from what cells, trace and output held before and after. It is refused for an output that is
 -- too short, and else for want of memory while the text is read.
@@ -77,7 +74,7 @@ pub record Asked (w : System) (cells cells' : List ℕ) (trace trace' : List Mov
 pub record Shown (w : System) (cells cells' : List ℕ) (trace trace' : List Move) (plays out out' : List ℕ) (n : ℕ) : Type 0 where
   pub verdict : Verdict
   pub asked : Asked w cells cells' trace trace' (Ok verdict)
-  pub written : Appends out out' 0 n (text_of (check_replies w trace' plays (Ok verdict)))
+  pub written : Begins out out' n (text_of (check_replies w trace' plays (Ok verdict)))
   pub stays_legal : (rest : List Reply) → check_replies w trace' plays (Ok verdict) ≡ clear ∷ rest → PlaysStayLegal w rest
 
 -- the check's replies, or its refusal

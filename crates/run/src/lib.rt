@@ -6,5 +6,5 @@ mod running;
 mod showing;
 mod stop;
 
-pub use running::{LEAST_OUTPUT, run};
+pub use running::{CELLS, LEAST_OUTPUT, RECORDS, run};
 pub use stop::{Fault, Refusal};

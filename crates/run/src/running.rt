@@ -1,19 +1,24 @@
 // Running a deck.
-ghost use Rattle.std.specs.Prelude.{◌≡◌, ◌≤◌, length};
-ghost use Rattle.decks.specs.Decks.{Reads};
+ghost use Rattle.std.specs.Prelude.{◌≤◌, length};
 ghost use Rattle.decks.specs.Said.{says};
 ghost use Rattle.run.specs.Only.{Only};
 ghost use Rattle.run.specs.Runs.{Answered, Made, Ran, least_output};
 
 use crate::showing::{conclude, put};
 use crate::stop::{Refusal, Stop};
-use control::{Problem, Unmade};
-use decks::{Deck, Unread};
+use control::{Arrangement, Problem, Unmade};
+use decks::Deck;
+use replies::MOST_MOVES;
 use std::alloc::Global;
 use theory::Move;
 
 // How many bytes an output has at least: enough for the replies to every deck.
 pub const LEAST_OUTPUT: usize = 65_536;
+
+// How many cells and records of a trace the programs lend.
+pub const CELLS: usize = 8_192;
+
+pub const RECORDS: usize = MOST_MOVES;
 
 // Reads a deck to its first fault, checks it, and plays its events. Writes all replies as lines to the front of the output
 // and answers their length; a fault becomes one line. Refuses an output that is too short, and else want of memory, and then
@@ -47,7 +52,7 @@ fn perform(
     }
     match answer(heap, text, cells, trace, out) {
         Ok(count) => Ok(count),
-        Err(Stop::Faulty(fault)) => Ok(put(fault.reply(), out, 0)),
+        Err(Stop::Faulty(fault)) => Ok(put(fault.reply(), out)),
         Err(Stop::OutOfMemory) => Err(Refusal::OutOfMemory),
     }
 }
@@ -63,25 +68,11 @@ fn answer(
     requires { least_output ≤ length out.old }
     ensures { Answered text.now cells.old cells.new trace.old trace.new out.old out.new result }
 {
-    let deck = read(heap, text)?;
+    let deck = Deck::read(heap, text)?;
     let problem = make(&deck)?;
-    let count = conclude(
-        &problem,
-        &deck.plant,
-        &deck.spec,
-        deck.plays.as_slice(),
-        cells,
-        trace,
-        out,
-    )?;
+    let arrangement = Arrangement::new(&problem, &deck.plant, &deck.spec);
+    let count = conclude(&arrangement, deck.plays.as_slice(), cells, trace, out)?;
     Ok(count)
-}
-
-// The deck of the whole text.
-fn read(heap: Global, text: &[u8]) -> Result<Deck, Unread>
-    ensures { Reads text.now result }
-{
-    Deck::read(heap, text)
 }
 
 // The problem of a deck.

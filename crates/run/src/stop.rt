@@ -9,16 +9,16 @@ ghost use Rattle.run.specs.declared.stop.Stop.TheVariants.{Faulty};
 use checking::Refusal as Unchecked;
 use control::Unmade;
 use decks::Unread;
-use frames::Fault as TextFault;
+use frames::{Fault as TextFault, Layer};
 use replies::Reply;
 
-// Why running is refused: the first that fits.
+// Why running is refused, with the numbers of the refusals: the first that fits.
 #[derive(Clone, Copy, PartialEq, Eq, Debug)]
 pub enum Refusal {
     // the output has fewer than 65,536 bytes
-    ShortOutput,
+    ShortOutput = 33,
     // there was no memory for what the deck yields
-    OutOfMemory,
+    OutOfMemory = 34,
 }
 
 impl Refusal {
@@ -26,10 +26,7 @@ impl Refusal {
     pub fn number(self) -> u8
         ensures { result ≡ run_number self }
     {
-        match self {
-            Refusal::ShortOutput => 33,
-            Refusal::OutOfMemory => 34,
-        }
+        self as u8
     }
 }
 
@@ -51,13 +48,15 @@ impl Fault {
     {
         match self {
             Fault::Text(fault) => Reply::Fault(fault.layer(), fault.line(), fault.number()),
-            Fault::Make(unmade) => Reply::Fault(3, 1, unmade.number()),
-            Fault::Check(refusal) => Reply::Fault(4, 0, refusal.number()),
+            Fault::Make(unmade) => Reply::Fault(Layer::Make, 1, unmade.number()),
+            Fault::Check(refusal) => Reply::Fault(Layer::Check, 0, refusal.number()),
         }
     }
 }
 
 // What comes in the way of the replies.
+// Kept: of the form of decks' own enum for another kind of fault; of one generic type there could be no `From` between two
+// instances in this crate.
 #[derive(Clone, Copy)]
 pub(crate) enum Stop {
     Faulty(Fault),

@@ -4,5 +4,4 @@ pub mod Halves
 pub mod Order
 pub mod Retraces
 pub mod Stages
-pub mod Strips
 pub mod Zeros

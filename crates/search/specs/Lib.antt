@@ -3,3 +3,4 @@ pub mod Queue
 pub mod Ranks
 pub mod Rings
 pub mod Runs
+pub mod Searches

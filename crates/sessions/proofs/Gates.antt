@@ -2,15 +2,15 @@
 -- every test holds; and where every test holds it answers. Assumes nothing.
 use Rattle.std.proofs.Common.{◌≡◌, ℕ, Bool, true, false, cond, ltb, List, [], ◌∷◌, is_some, Some, None, Ok, Err, Option, Result, unwrap_or, sym, refl, ap, ◌∙◌, arith}
 use Rattle.std.proofs.lemmas.Bool.{both_ways, not-true}
+use Rattle.std.specs.Option.{ok_or}
 use Rattle.plants.specs.Masks.{bit}
 use Rattle.control.specs.Systems.{System}
 use Rattle.sites.specs.Sites.{vote_mask}
-use Rattle.sessions.specs.Calls.{gated, later, ballot_gates, settle_gates, happen_gates, same_counts, site, is_site, balloted, settled_in, allowed_in, all_voted, fused, settling, happening, leaves, with_ballot, with_round, with_event, Does}
+use Rattle.sessions.specs.Calls.{gated, ballot_gates, settle_gates, happen_gates, same_counts, site, is_site, balloted, settled_in, allowed_in, all_voted, fused, settling, happening, leaves, with_event, Does}
 use Rattle.sessions.specs.Status.{Status}
-use Rattle.sessions.specs.declared.call.Call.TheVariants.{Ballot, Settle, Happen}
+use Rattle.sessions.specs.declared.call.Call.TheVariants.{Happen}
 use Rattle.sessions.specs.declared.call.Refusal.{Refusal}
-use Rattle.sessions.specs.declared.call.Refusal.TheVariants.{Closed, CountDiffers}
-use Rattle.sessions.specs.declared.call.Reply.TheVariants.{Voted, Allowed, Moved}
+use Rattle.sessions.specs.declared.call.Reply.TheVariants.{Moved}
 
 -- every gate is open
 abbrev pub AllOpen : List (Bool × Refusal) → Type 0
@@ -31,6 +31,11 @@ passed (gate ∷ gates) given a h =
 pub grants : {A : Type 0} (gates : List (Bool × Refusal)) (given : A) → AllOpen gates → gated gates given ≡ Ok given
 grants [] given h = refl
 grants (gate ∷ gates) given (here, others) = ap (λ b. cond b (gated gates given) (Err gate.1)) here ∙ grants gates given others
+
+-- what answers an option's value holds it
+pub given_by : (o : Option ℕ) (x : Refusal) (v : ℕ) → ok_or o x ≡ Ok v → o ≡ Some v
+given_by (Some y) x v h = cc
+given_by None x v h = cc
 
 -- what an accepted ballot, settlement and event say
 pub record Balloted (w : System) (s : Status) (i v : ℕ) : Type 0 where
@@ -79,28 +84,6 @@ happen_passed w s e q h =
       steps = some_value (w.plant.step s.state e) q later.1.1.1.0 same;
     }
 
--- a granted call, as the definition of calls has it
-pub ballot_does : (w : System) (s : Status) (i v : ℕ) → balloted w s i ≡ Ok v → Does w s (Ballot i) (Voted (Ok v)) (with_ballot s i v)
-ballot_does w s i v is = (ap Voted (sym is), ap (λ r. leaves s r (with_ballot s i)) (sym is))
-
-pub settle_does : (w : System) (s : Status) (m : ℕ) → settling w s ≡ Ok m → Does w s Settle (Allowed (Ok m)) (with_round s m)
-settle_does w s m is = (ap Allowed (sym is), ap (λ r. leaves s r (with_round s)) (sym is))
-
+-- a granted event, as the definition of calls has it
 pub happen_does : (w : System) (s : Status) (e q : ℕ) → happening w s e ≡ Ok q → Does w s (Happen e) (Moved (Ok q)) (with_event w s e q)
 happen_does w s e q is = (ap Moved (sym is), ap (λ r. leaves s r (with_event w s e)) (sym is))
-
--- what turns every later call away turns this one away
-turned : {A : Type 0} (on same : Bool) (rest : Result A Refusal) (x : Refusal) → ◌≡◌ {A = Result (Unit {0}) Refusal} (cond on (cond same (Ok tt) (Err CountDiffers)) (Err Closed)) (Err x) → cond on (cond same rest (Err CountDiffers)) (Err Closed) ≡ Err x
-turned true true rest x h = let z : ◌≡◌ {A = ℕ} 0 1 = cc in absurd (omega arith)
-turned true false rest x h = cc
-turned false same rest x h = cc
-
-pub later_refused : {A : Type 0} (w : System) (s : Status) (gates : List (Bool × Refusal)) (a : A) (x : Refusal) → gated {A = Unit {0}} (later w s []) tt ≡ Err x → gated (later w s gates) a ≡ Err x
-later_refused w s gates a x h = turned s.started (same_counts w s) (gated gates a) x h
-
--- a refused call, as the definition of calls has it
-pub ballot_refused : (w : System) (s : Status) (i : ℕ) (x : Refusal) → balloted w s i ≡ Err x → Does w s (Ballot i) (Voted (Err x)) s
-ballot_refused w s i x is = (ap Voted (sym is), ap (λ r. leaves s r (with_ballot s i)) (sym is))
-
-pub happen_refused : (w : System) (s : Status) (e : ℕ) (x : Refusal) → happening w s e ≡ Err x → Does w s (Happen e) (Moved (Err x)) s
-happen_refused w s e x is = (ap Moved (sym is), ap (λ r. leaves s r (with_event w s e)) (sym is))

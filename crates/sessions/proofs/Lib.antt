@@ -3,3 +3,4 @@ pub mod Running
 pub mod Keeping
 pub mod Promised
 pub mod Rooms
+pub mod Mapped

@@ -19,9 +19,9 @@ use Rattle.sites.specs.Sites.{vote_mask}
 use Rattle.sessions.specs.Calls.{balloted, settling, happening, happen_gates, settled_in, Ran, Does}
 use Rattle.sessions.specs.Histories.{Exchange, History, accepted, shown, Sized, ClearExactly, AcceptsExactly, AllowsExactly, EqualVotes, Promises}
 use Rattle.sessions.specs.Status.{Status}
-use Rattle.sessions.specs.declared.call.Call.TheVariants.{Ballot, Happen}
+use Rattle.sessions.specs.declared.call.Call.TheVariants.{Ballot, Settle, Happen}
 use Rattle.sessions.specs.declared.call.Refusal.{Refusal}
-use Rattle.sessions.specs.declared.call.Reply.TheVariants.{Voted, Moved}
+use Rattle.sessions.specs.declared.call.Reply.TheVariants.{Voted, Allowed, Moved}
 use Rattle.sessions.proofs.Gates.{grants, ballot_passed, settle_passed, happen_passed}
 use Rattle.sessions.proofs.Running.{Running, Kept, allowed_from}
 use Rattle.sessions.proofs.Keeping.{happen_legal, settle_kept, step_kept, history_kept}
@@ -76,10 +76,11 @@ module _ (w : System) (keeps : Keeps w) (few : w.setup.sites ≤ 4) where
   )
 
   -- the two of them, for a call of happen
-  pub after_event : {h : List Exchange} {s : Status} → History w h s → (e : ℕ) (r : Result ℕ Refusal) (s' : Status) → Does w s (Happen e) (Moved r) s' → Legal w (accepted ((Happen e, Moved r) ∷ h)) × AcceptsExactly w h e r
-  after_event {h} {s} past e r s' does =
-      let is : happening w s e ≡ r = let told = does.0 in cc in
-      (legal_kept (step_kept w keeps few (history_kept w keeps few past) (Happen e) (Moved r) s' does), λ round. accepts_exactly (history_kept w keeps few past) round e r is)
+  pub event_legal : {h : List Exchange} {s : Status} → History w h s → (e : ℕ) (r : Result ℕ Refusal) (s' : Status) → Does w s (Happen e) (Moved r) s' → Legal w (accepted ((Happen e, Moved r) ∷ h))
+  event_legal past e r s' does = legal_kept (step_kept w keeps few (history_kept w keeps few past) (Happen e) (Moved r) s' does)
+
+  pub event_exact : {h : List Exchange} {s : Status} → History w h s → (e : ℕ) (r : Result ℕ Refusal) (s' : Status) → Does w s (Happen e) (Moved r) s' → AcceptsExactly w h e r
+  event_exact past e r s' (is, to) = λ round. accepts_exactly (history_kept w keeps few past) round e r (cc)
 
   -- so what settle allows, of what the plant can do, is exactly what stays legal
   pub allows_exactly : {h : List Exchange} {s : Status} → History w h s → (r : Result ℕ Refusal) → settling w s ≡ r → AllowsExactly w h r
@@ -92,6 +93,9 @@ module _ (w : System) (keeps : Keeps w) (few : w.setup.sites ≤ 4) where
         λ allowed. happen_legal w keeps few kept e q (record { started = on; event = lt-ltb e w.setup.events below; settled = refl; allowed = allowed; steps = ap (λ x. w.plant.step x e) (follows_once w (accepted h) s.state p run.state follows) ∙ steps }),
         λ legal. let (exact, rules) = votes_generate_legal_lem w keeps run.clear in allowed_from w keeps few run refl e below (last_event (exact.whole (e ∷ accepted h) legal)).1,
       )
+
+  pub after_settlement : {h : List Exchange} {s : Status} → History w h s → (r : Result ℕ Refusal) (s' : Status) → Does w s Settle (Allowed r) s' → AllowsExactly w h r
+  after_settlement past r s' (is, to) = allows_exactly past r (cc)
 
   -- EQUAL SIGHTS, EQUAL VOTES
   -- a vote is the one at the estimate for what the site was shown
@@ -112,10 +116,13 @@ module _ (w : System) (keeps : Keeps w) (few : w.setup.sites ≤ 4) where
       ∙ ap (λ σ. vote_mask w i (estimate w i σ)) (sym same)
       ∙ sym (vote_shown (history_kept w keeps few other) i b (cc)))
 
+  pub after_ballot : {h : List Exchange} {s : Status} → History w h s → (i : ℕ) (r : Result ℕ Refusal) (s' : Status) → Does w s (Ballot i) (Voted r) s' → EqualVotes w h i r
+  after_ballot past i r s' (is, to) = equal_votes past i r (cc)
+
   pub promised : Promises w
   promised = record {
     clear_exactly = λ s r s' (r₁, is, (ran, to)). let same : r₁ ≡ r = cc in subst (ClearExactly w) same (clear_exactly w r₁ ran);
     stays_legal = λ h s past. legal_kept (history_kept w keeps few past);
-    accepts_exactly = λ h s past e r s' does. (after_event past e r s' does).1;
-    equal_votes = λ h s past i r s' (is, to). equal_votes past i r (cc);
+    accepts_exactly = λ h s past e r s' does. event_exact past e r s' does;
+    equal_votes = λ h s past i r s' does. after_ballot past i r s' does;
   }

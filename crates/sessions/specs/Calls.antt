@@ -1,10 +1,10 @@
 -- What each call of a session answers, and what session it leaves. A call is granted or refused by its gates: tests in
 -- order, each with the refusal that it gives where it fails. A refused call leaves the session as it was.
 -- Assumes nothing.
-use Rattle.std.specs.Prelude.{◌≡◌, ℕ, suc, ◌-◌, Bool, true, false, cond, not, ◌&&◌, ◌||◌, List, [], ◌∷◌, is_some, Some, None, Ok, Err, Result, ◌==◌, nat_le, nat_lt, slice_index_or, slice_set}
+use Rattle.std.specs.Prelude.{◌≡◌, ℕ, suc, ◌-◌, Bool, true, false, cond, not, ◌&&◌, ◌||◌, List, [], ◌∷◌, is_some, Some, None, Option, Ok, Err, Result, ◌==◌, nat_le, nat_lt, slice_index_or, slice_set}
 use Rattle.std.specs.Option.{unwrap_or}
 use Rattle.plants.specs.Masks.{bit, mask_of}
-use Rattle.plants.specs.Ranges.{any, all}
+use Rattle.plants.specs.Ranges.{all}
 use Rattle.control.specs.Setup.{Setup}
 use Rattle.control.specs.Systems.{System}
 use Rattle.theory.specs.Rules.{fusion}
@@ -22,8 +22,6 @@ use Rattle.sessions.specs.declared.call.Refusal.{Refusal}
 use Rattle.sessions.specs.declared.call.Refusal.TheVariants.{CountDiffers, Closed, NoSite, HasVoted, BallotMissing, IsSettled, NotSettled, NoEvent, NotAllowed, NoStep}
 use Rattle.sessions.specs.declared.call.Reply.{Reply}
 use Rattle.sessions.specs.declared.call.Reply.TheVariants.{Checked as CheckedBy, Voted, Allowed, Moved}
-use Rattle.sessions.specs.declared.session.Round.{Round}
-use Rattle.sessions.specs.declared.session.Round.TheVariants.{Voting, Settled}
 use Rattle.sessions.specs.declared.session.Site.{Site}
 
 -- the refusals' numbers
@@ -79,13 +77,11 @@ with_ballot s i v =
     }
 
 -- SETTLE answers and keeps the mask of the events that fusion allows.
-abbrev pub settled_in : Round → Bool
-settled_in Voting = false
-settled_in (Settled m) = true
+abbrev pub settled_in : Option ℕ → Bool
+settled_in round = is_some round
 
-abbrev pub allowed_in : Round → ℕ
-allowed_in Voting = 0
-allowed_in (Settled m) = m
+abbrev pub allowed_in : Option ℕ → ℕ
+allowed_in round = unwrap_or round 0
 
 abbrev pub has_voted : Status → ℕ → Bool
 has_voted s i = is_some (site s i).ballot
@@ -97,13 +93,6 @@ all_voted w s = all (suc w.setup.sites) (λ i. (i == 0) || has_voted s i)
 -- what site i said of e in this round
 abbrev pub said : Status → ℕ → ℕ → Bool
 said s i e = bit (unwrap_or (site s i).ballot 0) e
-
--- fusion, open to computation
-abbrev pub weighed : Setup → ℕ → (ℕ → Bool) → Bool
-weighed p e says =
-    cond (p.disjunctive e)
-    (any (suc p.sites) (λ i. p.controls i e && says i))
-    (all (suc p.sites) (λ i. not (p.controls i e) || says i))
 
 abbrev pub fused_by : Setup → Status → ℕ
 fused_by p s = mask_of p.events (λ e. fusion p e (λ i. said s i e))
@@ -126,7 +115,7 @@ with_round s m =
       site_count = s.site_count;
       state = s.state;
       sites = s.sites;
-      round = Settled m;
+      round = Some m;
     }
 
 -- HAPPEN moves the plant by an event, tells the sites that see it, starts a new round and answers the plant's state.
@@ -161,7 +150,7 @@ with_event w s e q =
       site_count = s.site_count;
       state = q;
       sites = next_sites w s e;
-      round = Voting;
+      round = None;
     }
 
 -- OPEN runs check; if it is clear, plant and estimates start at their first, with a round without ballots.
@@ -180,7 +169,7 @@ opened w =
       site_count = w.setup.sites;
       state = w.plant.first;
       sites = first_sites w;
-      round = Voting;
+      round = None;
     }
 
 abbrev pub is_clear : Result Verdict Unchecked → Bool

@@ -1,10 +1,10 @@
 -- What a session holds. Assumes nothing.
-use Rattle.std.specs.Prelude.{ℕ, Bool, false, List, [], ◌∷◌, None}
-use Rattle.sessions.specs.declared.session.Round.{Round}
-use Rattle.sessions.specs.declared.session.Round.TheVariants.{Voting}
+use Rattle.std.specs.Prelude.{ℕ, Bool, true, false, List, [], ◌∷◌, Some, None, Option}
+use Rattle.sessions.specs.declared.session.Open.{Open}
 use Rattle.sessions.specs.declared.session.Session.{Session}
 use Rattle.sessions.specs.declared.session.Site.{Site}
 
+-- the round is the events that fusion allows, once it is settled
 pub record Status : Type 0 where
   pub started : Bool
   pub plant_count : ℕ
@@ -12,19 +12,7 @@ pub record Status : Type 0 where
   pub site_count : ℕ
   pub state : ℕ
   pub sites : List Site
-  pub round : Round
-
-abbrev pub status : Session → Status
-status s =
-    record {
-      started = s.started;
-      plant_count = s.plant_count;
-      spec_count = s.spec_count;
-      site_count = s.site_count;
-      state = s.state;
-      sites = s.sites;
-      round = s.round;
-    }
+  pub round : Option ℕ
 
 -- what a new session holds: it is closed
 abbrev pub no_site : Site
@@ -39,5 +27,25 @@ closed =
       site_count = 0;
       state = 0;
       sites = no_site ∷ no_site ∷ no_site ∷ no_site ∷ [];
-      round = Voting;
+      round = None;
     }
+
+-- what an open session holds
+abbrev pub running : Open → Status
+running s =
+    record {
+      started = true;
+      plant_count = s.plant_count;
+      spec_count = s.spec_count;
+      site_count = s.site_count;
+      state = s.state;
+      sites = s.sites;
+      round = s.settled;
+    }
+
+abbrev pub status_of : Option Open → Status
+status_of None = closed
+status_of (Some s) = running s
+
+abbrev pub status : Session → Status
+status s = status_of s.open

@@ -5,29 +5,29 @@ ghost use Rattle.sessions.specs.Calls.{refusal_number};
 use checking::{Refusal as Unchecked, Verdict};
 use plants::{Event, Mask, State};
 
-// Why a session refuses a call.
+// Why a session refuses a call, with the numbers of the refusals.
 #[derive(Clone, Copy, PartialEq, Eq, Debug)]
 pub enum Refusal {
     // a state count or the site count is not that of the opening
-    CountDiffers,
+    CountDiffers = 20,
     // the session is closed
-    Closed,
+    Closed = 21,
     // the site is not 1 to n
-    NoSite,
+    NoSite = 22,
     // the site has voted in this round
-    HasVoted,
+    HasVoted = 23,
     // a ballot is missing
-    BallotMissing,
+    BallotMissing = 24,
     // the round is settled already
-    IsSettled,
+    IsSettled = 25,
     // the round is not settled
-    NotSettled,
+    NotSettled = 26,
     // the event is not below the event count
-    NoEvent,
+    NoEvent = 27,
     // the event is not allowed in this round
-    NotAllowed,
+    NotAllowed = 28,
     // the plant has no such step
-    NoStep,
+    NoStep = 29,
 }
 
 impl Refusal {
@@ -35,18 +35,7 @@ impl Refusal {
     pub fn number(self) -> u8
         ensures { result ≡ refusal_number self }
     {
-        match self {
-            Refusal::CountDiffers => 20,
-            Refusal::Closed => 21,
-            Refusal::NoSite => 22,
-            Refusal::HasVoted => 23,
-            Refusal::BallotMissing => 24,
-            Refusal::IsSettled => 25,
-            Refusal::NotSettled => 26,
-            Refusal::NoEvent => 27,
-            Refusal::NotAllowed => 28,
-            Refusal::NoStep => 29,
-        }
+        self as u8
     }
 }
 

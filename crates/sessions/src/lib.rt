@@ -6,4 +6,4 @@ mod call;
 mod session;
 
 pub use call::{Call, Refusal, Reply};
-pub use session::{Round, Session, Site};
+pub use session::{Session, Site};

@@ -1,6 +1,8 @@
 pub mod Sets
-pub mod Numbers
+pub mod StepSets
 pub mod Closed
 pub mod Worklist
 pub mod Exact
+pub mod Chains
+pub mod Masking
 pub mod Voting

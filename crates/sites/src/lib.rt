@@ -1,15 +1,16 @@
-// A site's estimates and votes, for any two plants.
+// A site's estimates and votes, for any two plants with few enough pairs.
 
 #![tactic(auto)]
 
 mod estimates;
-mod pairs;
 mod reach;
+mod set;
 mod steps;
 mod votes;
 
-pub use estimates::{first_estimate, hidden_reach, see};
-pub use pairs::PairSet;
+pub use estimates::{first_estimate, see};
+pub use reach::hidden_reach;
+pub use set::PairSet;
 pub use votes::vote;
 
 #[cfg(test)]

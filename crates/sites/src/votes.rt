@@ -1,120 +1,59 @@
 // A site's votes.
-ghost use Rattle.std.specs.Prelude.{◌≡◌, ◌≤◌, not, ◌&&◌, IfSome, ◌==◌};
-ghost use Rattle.control.specs.Problems.{setup};
-ghost use Rattle.control.specs.Systems.{system};
-ghost use Rattle.control.specs.declared.problem.Mode.TheVariants.{Conjunctive, Disjunctive};
-ghost use Rattle.theory.specs.Estimates.{is_bad, is_legal, pairs, vote as vote_of};
-ghost use Rattle.sites.specs.Sites.{VotesBySight, most_pairs, some_below, vote_mask, where_room};
+ghost use Rattle.std.specs.Prelude.{◌≡◌};
+ghost use Rattle.theory.specs.Estimates.{is_bad, is_legal, pairs as pairs_of, vote as vote_of};
+ghost use Rattle.pairs.specs.Numbered.{numbered};
+ghost use Rattle.sites.specs.Sites.{VotesBySight, some_below, vote_mask};
 
-use crate::pairs::{PairSet, holds, pair_count};
-use crate::steps::step_at;
-use control::{Mode, PairStep, Problem};
+use crate::set::{PairSet, holds};
+use control::{Mode, PairStep};
+use pairs::Numbered;
 use plants::{Event, Mask, Plant};
 
 // A site's vote at an estimate, as a mask of events.
-pub fn vote<P: Plant, S: Plant>(
-    problem: &Problem,
-    plant: &P,
-    spec: &S,
-    site: u8,
-    estimate: PairSet,
-) -> Option<Mask>
-    ensures value { result ≡ where_room (system (setup problem.now) (P.Plant.meaning plant.now) (S.Plant.meaning spec.now)) (vote_mask (system (setup problem.now) (P.Plant.meaning plant.now) (S.Plant.meaning spec.now)) site estimate) }
-    ensures rules { IfSome result (VotesBySight (system (setup problem.now) (P.Plant.meaning plant.now) (S.Plant.meaning spec.now)) site estimate) }
+pub fn vote<P: Plant, S: Plant>(pairs: &Numbered<'_, P, S>, site: u8, estimate: PairSet) -> Mask
+    ensures value { result ≡ vote_mask (numbered pairs.now) site estimate }
+    ensures rules { VotesBySight (numbered pairs.now) site estimate result }
 {
-    let count = pair_count(plant, spec)?;
-    Some(votes(problem, plant, spec, count, site, estimate))
-}
-
-fn votes<P: Plant, S: Plant>(
-    problem: &Problem,
-    plant: &P,
-    spec: &S,
-    count: u8,
-    site: u8,
-    estimate: PairSet,
-) -> Mask
-    requires all { count ≡ pairs (system (setup problem.now) (P.Plant.meaning plant.now) (S.Plant.meaning spec.now)) }
-    requires room { count ≤ most_pairs }
-    ensures value { result ≡ vote_mask (system (setup problem.now) (P.Plant.meaning plant.now) (S.Plant.meaning spec.now)) site estimate }
-    ensures rules { VotesBySight (system (setup problem.now) (P.Plant.meaning plant.now) (S.Plant.meaning spec.now)) site estimate result }
-{
+    // Kept: sessions gather a mask in this way too; one public function for both would have to require that a test may
+    // be called.
     let mut mask = 0;
-    for event in 0..problem.events() {
-        if says_yes(problem, plant, spec, count, site, estimate, event) {
+    for event in 0..pairs.arrangement.problem.events() {
+        if says_yes(pairs, site, estimate, event) {
             mask += 1 << event;
         }
     }
     mask
 }
 
-// Whether a site says yes to an event.
+// Whether a site says yes to an event: a conjunctive one is to be legal at some pair of the estimate, and a disjunctive one
+// bad at none, of an estimate that is not empty.
 fn says_yes<P: Plant, S: Plant>(
-    problem: &Problem,
-    plant: &P,
-    spec: &S,
-    count: u8,
+    pairs: &Numbered<'_, P, S>,
     site: u8,
     estimate: PairSet,
     event: Event,
 ) -> bool
-    requires all { count ≡ pairs (system (setup problem.now) (P.Plant.meaning plant.now) (S.Plant.meaning spec.now)) }
-    requires room { count ≤ most_pairs }
-    ensures { result ≡ vote_of (system (setup problem.now) (P.Plant.meaning plant.now) (S.Plant.meaning spec.now)) site estimate event }
+    ensures { result ≡ vote_of (numbered pairs.now) site estimate event }
 {
+    let problem = pairs.arrangement.problem;
     problem.controls(site, event)
-        && steps_in(problem, plant, spec, count, estimate, event).agree(
-            problem.mode(event),
-            estimate,
-        )
-}
-
-// What an event does at the pairs of a set.
-#[derive(Clone, Copy)]
-struct Found {
-    // some pair has a legal step
-    legal: bool,
-    // some pair has a bad step
-    bad: bool,
-}
-
-impl Found {
-    // Whether it speaks for an event: a conjunctive one is to be legal at some pair, and a disjunctive one bad at none, of a
-    // set that is not empty.
-    fn agree(self, mode: Mode, set: PairSet) -> bool
-        ensures conjunctive { mode ≡ Conjunctive → result ≡ self.legal }
-        ensures disjunctive { mode ≡ Disjunctive → result ≡ (not (set == 0) && not self.bad) }
-    {
-        match mode {
-            Mode::Conjunctive => self.legal,
-            Mode::Disjunctive => set != 0 && !self.bad,
+        && match problem.mode(event) {
+            Mode::Conjunctive => some_legal(pairs, estimate, event),
+            Mode::Disjunctive => estimate != 0 && !some_bad(pairs, estimate, event),
         }
-    }
 }
 
-fn steps_in<P: Plant, S: Plant>(
-    problem: &Problem,
-    plant: &P,
-    spec: &S,
-    count: u8,
-    set: PairSet,
-    event: Event,
-) -> Found
-    requires all { count ≡ pairs (system (setup problem.now) (P.Plant.meaning plant.now) (S.Plant.meaning spec.now)) }
-    requires room { count ≤ most_pairs }
-    ensures legal { result.legal ≡ some_below (system (setup problem.now) (P.Plant.meaning plant.now) (S.Plant.meaning spec.now)) (pairs (system (setup problem.now) (P.Plant.meaning plant.now) (S.Plant.meaning spec.now))) set event is_legal }
-    ensures bad { result.bad ≡ some_below (system (setup problem.now) (P.Plant.meaning plant.now) (S.Plant.meaning spec.now)) (pairs (system (setup problem.now) (P.Plant.meaning plant.now) (S.Plant.meaning spec.now))) set event is_bad }
+// Whether an event has a legal step from some pair of a set.
+// Kept: this and the next differ in a pattern; a test in its place would have a longer contract than the two together.
+fn some_legal<P: Plant, S: Plant>(pairs: &Numbered<'_, P, S>, set: PairSet, event: Event) -> bool
+    ensures { result ≡ some_below (numbered pairs.now) (pairs_of (numbered pairs.now)) set event is_legal }
 {
-    let mut legal = false;
-    let mut bad = false;
-    for n in 0..count {
-        if holds(set, n) {
-            match step_at(problem, plant, spec, n, event) {
-                PairStep::NoStep => {}
-                PairStep::Bad => bad = true,
-                PairStep::Legal(_) => legal = true,
-            }
-        }
-    }
-    Found { legal, bad }
+    (0..pairs.count()).any(|n| holds(set, n) && matches!(pairs.step(n, event), PairStep::Legal(_)))
+}
+
+// Whether an event has a bad step from some pair of a set.
+fn some_bad<P: Plant, S: Plant>(pairs: &Numbered<'_, P, S>, set: PairSet, event: Event) -> bool
+    ensures { result ≡ some_below (numbered pairs.now) (pairs_of (numbered pairs.now)) set event is_bad }
+{
+    (0..pairs.count()).any(|n| holds(set, n) && matches!(pairs.step(n, event), PairStep::Bad))
 }

@@ -34,12 +34,12 @@ choose c P has = ((λ i. pick i (c i) refl), λ i h. right i h (c i) refl)
     right i has_one true h = (has i h).1
     right i has_one false h = absurd (both_ways (c i) h has_one)
 
-legal_is : (o : PairStep) → is_legal o ≡ true → (y : Pair) × (o ≡ To y)
+legal_is : (o : PairStep Pair) → is_legal o ≡ true → (y : Pair) × (o ≡ To y)
 legal_is NoStep h = absurd (false≢true h)
 legal_is Bad h = absurd (false≢true h)
 legal_is (To y) h = (y, refl)
 
-bad_is : (o : PairStep) → is_bad o ≡ true → o ≡ Bad
+bad_is : (o : PairStep Pair) → is_bad o ≡ true → o ≡ Bad
 bad_is NoStep h = absurd (false≢true h)
 bad_is Bad h = refl
 bad_is (To y) h = absurd (false≢true h)
@@ -52,12 +52,12 @@ abbrev BadLike : System → ℕ → List ℕ → ℕ → List ℕ → Type 0
 BadLike w e s i t = (sight w.setup i t ≡ sight w.setup i s) × BadAfter w t e
 
 -- a test that a pair of the estimate passes
-abbrev some_pair : System → ℕ → ℕ → (PairStep → Bool) → Bool
+abbrev some_pair : System → ℕ → ℕ → (PairStep Pair → Bool) → Bool
 some_pair w m e test = any (pairs w) (λ n. bit m n && test (pair_step w (pair_of w n) e))
 
 module _ (w : System) (kept : Keeps w) (i : ℕ) (e : ℕ) where
   -- a string with equal sight shows what a pair of the estimate passes
-  shown : (s : List ℕ) (test : PairStep → Bool) → some_pair w (estimate w i (sight w.setup i s)) e test ≡ true
+  shown : (s : List ℕ) (test : PairStep Pair → Bool) → some_pair w (estimate w i (sight w.setup i s)) e test ≡ true
       → (t : List ℕ) × (x : Pair) × Leads w t x × (sight w.setup i t ≡ sight w.setup i s) × (test (pair_step w x e) ≡ true)
   shown s test h =
       let m = estimate w i (sight w.setup i s) in
@@ -68,7 +68,7 @@ module _ (w : System) (kept : Keeps w) (i : ℕ) (e : ℕ) where
       (t, x, leads, same, ap (λ y. test (pair_step w y e)) (sym found) ∙ pass)
 
   -- and a pair that the string leads to passes if its step does
-  passes : (s : List ℕ) (x : Pair) (test : PairStep → Bool) → Leads w s x → test (pair_step w x e) ≡ true → some_pair w (estimate w i (sight w.setup i s)) e test ≡ true
+  passes : (s : List ℕ) (x : Pair) (test : PairStep Pair → Bool) → Leads w s x → test (pair_step w x e) ≡ true → some_pair w (estimate w i (sight w.setup i s)) e test ≡ true
   passes s x test h pass =
       let m = estimate w i (sight w.setup i s) in
       let (inside, member) = estimate_member w kept i s x h in
@@ -166,7 +166,7 @@ module _ (w : System) (kept : Keeps w) (none : (e : ℕ) → Counterexample w e 
   allowed_legal : (e : ℕ) (s : List ℕ) → Legal w s → Possible w (e ∷ s) → allowed e s ≡ true → Legal w (e ∷ s)
   allowed_legal e s (x, h) (q, (p, follows, event, steps)) fused = go (pair_step w x e) refl
     where
-      go : (o : PairStep) → pair_step w x e ≡ o → Legal w (e ∷ s)
+      go : (o : PairStep Pair) → pair_step w x e ≡ o → Legal w (e ∷ s)
       go NoStep is = absurd (plant_step w x e q event (ap (λ v. w.plant.step v e) (follows_once w s x.plant p (leads_follows w s x h) follows) ∙ steps) is)
       go Bad is = absurd (bad_not_allowed e s x h is fused (w.setup.disjunctive e) refl)
       go (To y) is = (y, (x, h, is))

@@ -1,8 +1,8 @@
 // The boxes at work, on the arrangement that the check clears.
 use crate::decision::{CELLS, blank_trace};
-use crate::office;
+use crate::office::{ONE_SAYS_YES, Offices};
 use checking::{Refusal as Unchecked, Verdict};
-use control::Problem;
+use control::Arrangement;
 use histories::replay;
 use plants::{Event, Mask, State, Table, contains};
 use sessions::{Call, Refusal, Reply, Session};
@@ -35,72 +35,51 @@ pub fn tell(rt: &HostRuntime) -> anyhow::Result<()> {
 // Opens a session and lets the boxes vote: at first they hold the release, and after a save they let it happen.
 fn attend(rt: &HostRuntime) -> anyhow::Result<()> {
     let heap = rt.alloc();
-    let office = Office {
-        problem: office::problem(office::ONE_SAYS_YES)?,
-        plant: office::plant(heap)?,
-        spec: office::specification(heap)?,
-    };
+    let offices = Offices::new(heap, ONE_SAYS_YES)?;
+    let arrangement = offices.arrangement();
     let mut cells = vec![in heap; 0; CELLS]?;
     let mut trace = blank_trace(heap)?;
     let mut session = Session::new();
     ask(rt, Call::Open)?;
-    checked(
-        rt,
-        session.open(
-            &office.problem,
-            &office.plant,
-            &office.spec,
-            &mut cells,
-            &mut trace,
-        ),
-    )?;
-    settle_round(rt, &office, &mut session)?;
-    let_happen(rt, &office, &mut session, 2)?;
-    let_happen(rt, &office, &mut session, 0)?;
-    settle_round(rt, &office, &mut session)?;
-    let_happen(rt, &office, &mut session, 2)
-}
-
-// What a session is about.
-#[derive(Drop)]
-struct Office {
-    problem: Problem,
-    plant: Table,
-    spec: Table,
+    checked(rt, session.open(&arrangement, &mut cells, &mut trace))?;
+    settle_round(rt, &arrangement, &mut session)?;
+    let_happen(rt, &arrangement, &mut session, 2)?;
+    let_happen(rt, &arrangement, &mut session, 0)?;
+    settle_round(rt, &arrangement, &mut session)?;
+    let_happen(rt, &arrangement, &mut session, 2)
 }
 
 // Casts both ballots and settles the round.
-fn settle_round(rt: &HostRuntime, office: &Office, session: &mut Session) -> anyhow::Result<()> {
+fn settle_round(
+    rt: &HostRuntime,
+    arrangement: &Arrangement<'_, Table, Table>,
+    session: &mut Session,
+) -> anyhow::Result<()> {
     for site in 1..=2u8 {
         ask(rt, Call::Ballot(site))?;
-        let vote = session.ballot(&office.problem, &office.plant, &office.spec, site);
-        answer(rt, Reply::Voted(vote))?;
+        answer(rt, Reply::Voted(session.ballot(arrangement, site)))?;
     }
     ask(rt, Call::Settle)?;
-    let allowed = session.settle(&office.problem, &office.plant, &office.spec);
-    answer(rt, Reply::Allowed(allowed))
+    answer(rt, Reply::Allowed(session.settle(arrangement)))
 }
 
 fn let_happen(
     rt: &HostRuntime,
-    office: &Office,
+    arrangement: &Arrangement<'_, Table, Table>,
     session: &mut Session,
     event: Event,
 ) -> anyhow::Result<()> {
     ask(rt, Call::Happen(event))?;
-    let outcome = session.happen(&office.problem, &office.plant, &office.spec, event);
-    answer(rt, Reply::Moved(outcome))
+    answer(rt, Reply::Moved(session.happen(arrangement, event)))
 }
 
 // Performs a list of calls on a new session and tells each with its reply.
 fn perform(rt: &HostRuntime, calls: &[Call]) -> anyhow::Result<()> {
     let heap = rt.alloc();
-    let problem = office::problem(office::ONE_SAYS_YES)?;
-    let plant = office::plant(heap)?;
-    let spec = office::specification(heap)?;
+    let offices = Offices::new(heap, ONE_SAYS_YES)?;
     let mut cells = vec![in heap; 0; CELLS]?;
     let mut trace = blank_trace(heap)?;
-    let done = replay(heap, &problem, &plant, &spec, calls, &mut cells, &mut trace)?;
+    let done = replay(heap, &offices.arrangement(), calls, &mut cells, &mut trace)?;
     for (call, reply) in calls.iter().zip(done.replies.as_slice()) {
         ask(rt, *call)?;
         answer(rt, *reply)?;

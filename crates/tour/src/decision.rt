@@ -1,5 +1,5 @@
 // What the check says of the two arrangements.
-use crate::office;
+use crate::office::{BOTH_SAY_YES, ONE_SAYS_YES, Offices};
 use checking::{Verdict, check, component};
 use control::Problem;
 use plants::{Event, Mask};
@@ -12,32 +12,29 @@ pub const CELLS: usize = 512;
 // No counterexample of the example has more moves.
 pub const MOVES: usize = 8;
 
-const BLANK: Move = Move { event: 0, mover: 0 };
-
 pub fn tell(rt: &HostRuntime) -> anyhow::Result<()> {
     println!(rt; "")?;
     println!(rt;
         "Can the boxes keep exactly the legal histories if the release needs a yes from both?"
     )?;
-    decide(rt, office::BOTH_SAY_YES)?;
+    decide(rt, BOTH_SAY_YES)?;
     println!(rt; "")?;
     println!(rt; "And if it needs a yes from one?")?;
-    decide(rt, office::ONE_SAYS_YES)
+    decide(rt, ONE_SAYS_YES)
 }
 
 fn decide(rt: &HostRuntime, modes: Mask) -> anyhow::Result<()> {
     let heap = rt.alloc();
-    let problem = office::problem(modes)?;
-    let plant = office::plant(heap)?;
-    let spec = office::specification(heap)?;
+    let offices = Offices::new(heap, modes)?;
+    let arrangement = offices.arrangement();
     let mut cells = vec![in heap; 0; CELLS]?;
     let mut trace = blank_trace(heap)?;
-    match check(&problem, &plant, &spec, &mut cells, &mut trace) {
+    match check(&arrangement, &mut cells, &mut trace) {
         Ok(Verdict::Clear) => println!(rt; "Yes: the check is clear.")?,
         Ok(Verdict::Clash(event, count)) => {
             println!(rt; "No: event {event} has a counterexample of {count} moves.")?;
-            if count <= trace.len() {
-                explain(rt, &problem, event, &trace.as_slice()[0..count])?;
+            if let Some(run) = trace.as_slice().get(0..count) {
+                explain(rt, arrangement.problem, event, run)?;
             }
         }
         Err(refusal) => {
@@ -49,7 +46,7 @@ fn decide(rt: &HostRuntime, modes: Mask) -> anyhow::Result<()> {
 }
 
 pub fn blank_trace(heap: Global) -> Result<Vec<Move>, AllocError> {
-    vec![in heap; BLANK; MOVES]
+    vec![in heap; Move::default(); MOVES]
 }
 
 // The histories that a run spells: one that happened, and for each controller one that it cannot tell from it.

@@ -1,52 +1,44 @@
 // What the tour tells.
-use crate::office;
-use control::{Finding, Mode, Pair, PairStep, Problem, Stop, audit};
+use crate::office::{BOTH_SAY_YES, Offices, RELEASE};
+use control::{Arrangement, Mode, PairStep, Problem, Stop, Stopped};
 use plants::{Event, Plant, Table};
 
 pub fn tell(rt: &HostRuntime) -> anyhow::Result<()> {
-    let problem = office::problem(office::BOTH_SAY_YES)?;
-    let plant = office::plant(rt.alloc())?;
-    let spec = office::specification(rt.alloc())?;
-    set_up(rt, &problem, &plant, &spec)?;
+    let offices = Offices::new(rt.alloc(), BOTH_SAY_YES)?;
+    let arrangement = offices.arrangement();
+    set_up(rt, &arrangement)?;
     follow(
         rt,
-        &problem,
-        &plant,
-        &spec,
+        &arrangement,
         "office 1 saves, then the set is released",
         &[0, 2],
     )?;
     follow(
         rt,
-        &problem,
-        &plant,
-        &spec,
+        &arrangement,
         "the set is released and nobody saved",
         &[2],
     )?;
     follow(
         rt,
-        &problem,
-        &plant,
-        &spec,
+        &arrangement,
         "office 2 saves, and office 1 saves too",
         &[1, 0],
     )?;
     follow(
         rt,
-        &problem,
-        &plant,
-        &spec,
+        &arrangement,
         "a record with a number that is no event",
         &[1, 7],
     )
 }
 
-fn set_up(rt: &HostRuntime, problem: &Problem, plant: &Table, spec: &Table) -> anyhow::Result<()> {
+fn set_up(rt: &HostRuntime, arrangement: &Arrangement<'_, Table, Table>) -> anyhow::Result<()> {
     println!(rt; "A drawing set and two offices")?;
     println!(rt;
         "Event 0 is a save by office 1, event 1 a save by office 2, event 2 the release."
     )?;
+    let problem = arrangement.problem;
     for site in 1..=problem.sites() {
         for event in 0..problem.events() {
             if problem.sees(site, event) {
@@ -57,7 +49,7 @@ fn set_up(rt: &HostRuntime, problem: &Problem, plant: &Table, spec: &Table) -> a
             }
         }
     }
-    match problem.mode(office::RELEASE) {
+    match problem.mode(RELEASE) {
         Mode::Conjunctive => println!(rt;
             "Event 2 is conjunctive: it needs a yes from every controller."
         )?,
@@ -65,8 +57,8 @@ fn set_up(rt: &HostRuntime, problem: &Problem, plant: &Table, spec: &Table) -> a
             "Event 2 is disjunctive: it needs a yes from one controller."
         )?,
     }
-    let states = plant.count();
-    let kept = spec.count();
+    let states = arrangement.plant.count();
+    let kept = arrangement.spec.count();
     println!(rt; "The plant has {states} states, its specification {kept}.")?;
     Ok(())
 }
@@ -74,25 +66,26 @@ fn set_up(rt: &HostRuntime, problem: &Problem, plant: &Table, spec: &Table) -> a
 // Follows one recorded history event by event, and has it audited.
 fn follow(
     rt: &HostRuntime,
-    problem: &Problem,
-    plant: &Table,
-    spec: &Table,
+    arrangement: &Arrangement<'_, Table, Table>,
     title: &str,
     events: &[Event],
 ) -> anyhow::Result<()> {
     println!(rt; "")?;
     println!(rt; "History: {title}")?;
-    let mut pair = Pair::first(plant, spec);
+    let mut pair = arrangement.first();
     for event in events {
-        match pair.step(problem, plant, spec, *event) {
+        match arrangement.step(pair, *event) {
             PairStep::Legal(next) => {
-                moved(rt, problem, *event, pair.plant, next.plant)?;
+                moved(rt, arrangement.problem, *event, pair.plant, next.plant)?;
                 println!(rt; "  That is legal.")?;
                 pair = next;
             }
             PairStep::Bad => {
-                let next = plant.step(pair.plant, *event).unwrap_or(pair.plant);
-                moved(rt, problem, *event, pair.plant, next)?;
+                let next = arrangement
+                    .plant
+                    .step(pair.plant, *event)
+                    .unwrap_or(pair.plant);
+                moved(rt, arrangement.problem, *event, pair.plant, next)?;
                 println!(rt; "  That is a bad step: the specification forbids it here.")?;
                 break;
             }
@@ -103,7 +96,7 @@ fn follow(
             }
         }
     }
-    report(rt, audit(problem, plant, spec, events))
+    report(rt, arrangement.audit(events))
 }
 
 // What the plant did on an event, and who saw it.
@@ -115,31 +108,25 @@ fn moved(
     to: u8,
 ) -> anyhow::Result<()> {
     println!(rt; "Event {event}: the plant goes from state {from} to state {to}.")?;
-    let mut unseen = true;
-    for site in 1..=problem.sites() {
-        if problem.sees(site, event) {
-            println!(rt; "  Site {site} saw it.")?;
-            unseen = false;
-        }
+    for site in (1..=problem.sites()).filter(|site| problem.sees(*site, event)) {
+        println!(rt; "  Site {site} saw it.")?;
     }
-    if unseen {
+    if !(1..=problem.sites()).any(|site| problem.sees(site, event)) {
         println!(rt; "  No site saw it.")?;
     }
     Ok(())
 }
 
-fn report(rt: &HostRuntime, finding: Finding) -> anyhow::Result<()> {
-    match finding {
-        Finding::Legal => println!(rt; "Audit: the whole history is legal.")?,
-        Finding::Stops(at, Stop::NoEvent) => println!(rt;
-            "Audit: legal for {at} events; the next number is no event."
-        )?,
-        Finding::Stops(at, Stop::NoStep) => println!(rt;
-            "Audit: legal for {at} events; the plant cannot do the next."
-        )?,
-        Finding::Stops(at, Stop::Bad) => println!(rt;
-            "Audit: legal for {at} events; the next is a bad step."
-        )?,
-    }
+fn report(rt: &HostRuntime, audited: Result<(), Stopped>) -> anyhow::Result<()> {
+    let Err(Stopped { at, how }) = audited else {
+        println!(rt; "Audit: the whole history is legal.")?;
+        return Ok(());
+    };
+    let why = match how {
+        Stop::NoEvent => "the next number is no event",
+        Stop::NoStep => "the plant cannot do the next",
+        Stop::Bad => "the next is a bad step",
+    };
+    println!(rt; "Audit: legal for {at} events; {why}.")?;
     Ok(())
 }

@@ -15,7 +15,7 @@ use Rattle.theory.specs.Example.{four_states, worked}
 use Rattle.worked.specs.Cases.{early}
 
 -- what a step comes to: B if it is bad, and L of where it leads if it is legal
-abbrev pub Comes : PairStep → Type 0 → (Pair → Type 0) → Type 0
+abbrev pub Comes : PairStep Pair → Type 0 → (Pair → Type 0) → Type 0
 Comes NoStep B L = Unit {0}
 Comes Bad B L = B
 Comes (To x) B L = L x

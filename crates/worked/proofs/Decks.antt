@@ -56,7 +56,7 @@ gets text x w answer tells made same answered cells cells' trace trace' replies 
 -- and running it writes them
 replied : (text : List ℕ) (x : Said) (w : System) (answer : List (List ℕ)) → Tells text x → makes x ≡ Ok tt → said_system x ≡ w → Answered w x.plays answer → Replies text answer
 replied text x w answer tells made same answered cells cells' trace trace' out out' n many long (enough, told) =
-    told.front ∙ gets text x w answer tells made same answered cells cells' trace trace' told.replies many long told.gets
+    told.written.front ∙ gets text x w answer tells made same answered cells cells' trace trace' told.replies many long told.gets
 
 -- the check answers v, so that is what is replied to
 answered_by : (w : System) (plays : List ℕ) (answer : List (List ℕ)) (n k : ℕ) (v : Result Verdict Unchecked) → Answers w n k v → n ≤ 8192 → k ≤ 256

@@ -1,10 +1,10 @@
 // Making problems.
-ghost use Rattle.std.specs.Prelude.{◌≡◌, ◌^◌, ◌≤◌, true, false, ltb, is_ok, if◌then◌else◌, nat_lt};
-ghost use Rattle.plants.specs.Masks.{width};
+ghost use Rattle.std.specs.Prelude.{◌≡◌, ◌≤◌, true, false, is_ok};
+ghost use Rattle.control.specs.Ranges.{in_rows, most_sites};
 ghost use Rattle.control.specs.Problems.{setup, fresh, filled, kept_rows, making, masks_below, rows_below, unmade_number};
 
 use super::{Problem, SITES, Unmade};
-use plants::{EVENTS, Mask};
+use plants::{EVENTS, Mask, is_below};
 
 impl Problem {
     // One event, one site and no bit.
@@ -45,7 +45,7 @@ impl Problem {
         if !masks_fit(modes, &seen, &controlled, events) {
             return Err(Unmade::MaskBit);
         }
-        let events_controlled = controlled[0] | controlled[1] | controlled[2] | controlled[3];
+        let events_controlled = union(&controlled);
         if modes | events_controlled != events_controlled {
             return Err(Unmade::ModeBit);
         }
@@ -65,54 +65,37 @@ impl Unmade {
     pub fn number(self) -> u8
         ensures { result ≡ unmade_number self }
     {
-        match self {
-            Unmade::EventCount => 41,
-            Unmade::SiteCount => 42,
-            Unmade::MaskBit => 43,
-            Unmade::ModeBit => 44,
-        }
+        self as u8
     }
 }
 
 // The rows, with those past the site count dropped.
 fn keep_rows(rows: [Mask; 4], sites: u8) -> [Mask; 4]
+    requires { sites ≤ most_sites }
     ensures { result ≡ kept_rows sites rows }
 {
-    [
-        keep(rows[0], 0, sites),
-        keep(rows[1], 1, sites),
-        keep(rows[2], 2, sites),
-        keep(rows[3], 3, sites),
-    ]
+    let mut kept = rows;
+    kept[sites as usize..].fill(0);
+    kept
 }
 
-fn keep(row: Mask, k: u8, sites: u8) -> Mask
-    ensures { result ≡ (if ltb k sites then row else 0) }
+// The events that some row has.
+fn union(rows: &[Mask; 4]) -> Mask
+    ensures { result ≡ in_rows rows.now }
 {
-    if k < sites { row } else { 0 }
+    let [a, b, c, d] = *rows;
+    a | b | c | d
 }
 
 // Whether no mask has a bit at or above the event count.
 fn masks_fit(modes: Mask, seen: &[Mask; 4], controlled: &[Mask; 4], events: u8) -> bool
-    requires { events ≤ width }
     ensures { result ≡ masks_below events modes seen.now controlled.now }
 {
     is_below(modes, events) && are_below(seen, events) && are_below(controlled, events)
 }
 
 fn are_below(rows: &[Mask; 4], events: u8) -> bool
-    requires { events ≤ width }
     ensures { result ≡ rows_below events rows.now }
 {
-    is_below(rows[0], events)
-        && is_below(rows[1], events)
-        && is_below(rows[2], events)
-        && is_below(rows[3], events)
-}
-
-fn is_below(mask: Mask, events: u8) -> bool
-    requires { events ≤ width }
-    ensures { result ≡ nat_lt mask (2 ^ events) }
-{
-    (mask as u64) < 1 << events
+    rows.iter().all(|row| is_below(*row, events))
 }

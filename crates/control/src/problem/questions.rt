@@ -38,6 +38,8 @@ impl Problem {
     pub fn controllers(&self, event: Event) -> u8
         ensures { result ≡ mask_of (suc most_sites) (λ i. (setup self.now).controls i event) }
     {
+        // Kept: sites and sessions gather masks by such loops too. One function for all would take the test, and have to
+        // require that it may be called; public functions here require nothing.
         let mut mask = 0;
         for site in 0..=SITES {
             if self.controls(site, event) {

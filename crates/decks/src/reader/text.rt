@@ -14,7 +14,7 @@ use std::alloc::Global;
 
 impl Reader {
     // Takes the frame that a text begins with, and answers the rest of the text.
-    pub fn take<'a>(
+    pub(crate) fn take<'a>(
         &mut self,
         heap: Global,
         text: &'a [u8],
@@ -29,7 +29,7 @@ impl Reader {
     }
 
     // What the frames yield, or the fault of a deck that ends before the specification's table.
-    pub fn finish(self, number: u16) -> Result<Deck, FrameFault>
+    pub(crate) fn finish(self, number: u16) -> Result<Deck, FrameFault>
         ensures { MatchResult result (λ d. (says d ≡ says self.deck) × (complete self.stage ≡ true)) (λ why. (why ≡ Ended number) × (complete self.stage ≡ false)) }
     {
         let Reader { stage, deck } = self;

@@ -2,9 +2,8 @@ use Rattle.std.proofs.Common.{◌≡◌, length, is_ok, vec_items, sym, ap, subs
 use Rattle.std.proofs.ResultArms.{chosen}
 use Rattle.std.proofs.lemmas.List.{get_or_default}
 use Rattle.std.proofs.lemmas.Result.{err_from_is_err_and}
-use Rattle.control.specs.Problems.{setup}
-use Rattle.control.specs.Systems.{system}
-use Rattle.control.proofs.Sound.{setup_sound}
+use Rattle.control.specs.Arrangements.{meant}
+use Rattle.control.proofs.Arrangements.{keeps}
 use Rattle.sessions.specs.Histories.{History}
 use Rattle.sessions.specs.Histories.History.{new}
 use Rattle.sessions.proofs.Promised.{promised}
@@ -14,7 +13,7 @@ use Rattle.histories.proofs.replay.Goals as goal
 pub returns-in_err-push : goal.returns-in_err-push
 returns-in_err-push g c =
     let (x, is, from) = err_from_is_err_and c.from_residual.result c.from_residual.ensures.1 in
-    rw is (record { history = tt; replies = tt; promises = promised (system (setup c.args.problem.now) (g.P.Plant.meaning c.args.plant.now) (g.S.Plant.meaning c.args.spec.now)) (record { setup = setup_sound c.args.problem.now; plant = g.met.P.Plant.lawful c.args.plant.now; spec = g.met.S.Plant.lawful c.args.spec.now }) c.args.problem.now.counts.3 })
+    rw is (record { history = tt; replies = tt; promises = promised (meant c.args.arrangement.now) (keeps c.args.arrangement.now) c.args.arrangement.now.problem.now.counts.3 })
 
 pub loop-call-init : goal.loop-call-init
 loop-call-init g c =
@@ -33,5 +32,5 @@ returns g c =
     record {
       history = rw whole at c.loop-call.invariant.2;
       replies = omega (arith, c.loop-call.invariant.1);
-      promises = promised (system (setup c.args.problem.now) (g.P.Plant.meaning c.args.plant.now) (g.S.Plant.meaning c.args.spec.now)) (record { setup = setup_sound c.args.problem.now; plant = g.met.P.Plant.lawful c.args.plant.now; spec = g.met.S.Plant.lawful c.args.spec.now }) c.args.problem.now.counts.3;
+      promises = promised (meant c.args.arrangement.now) (keeps c.args.arrangement.now) c.args.arrangement.now.problem.now.counts.3;
     }

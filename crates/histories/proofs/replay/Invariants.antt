@@ -1,6 +1,5 @@
 use Rattle.std.proofs.Common.{◌≡◌, ◌≤◌, length, take, vec_items, vec_len}
-use Rattle.control.specs.Problems.{setup}
-use Rattle.control.specs.Systems.{system}
+use Rattle.control.specs.Arrangements.{meant}
 use Rattle.sessions.specs.Histories.{History}
 use Rattle.sessions.specs.Status.{status}
 use Rattle.histories.specs.Lists.{exchanges}
@@ -11,4 +10,4 @@ abbrev pub invariant-loop-call : goal.invariant-loop-call
 invariant-loop-call g l =
     (l.call-index ≤ length l.calls)
     × (vec_len l.replies ≡ l.call-index)
-    × History (system (setup l.problem) (g.P.Plant.meaning l.plant) (g.S.Plant.meaning l.spec)) (exchanges (take l.call-index l.calls) (vec_items l.replies)) (status l.session)
+    × History (meant l.arrangement) (exchanges (take l.call-index l.calls) (vec_items l.replies)) (status l.session)

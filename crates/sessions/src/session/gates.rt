@@ -1,13 +1,14 @@
 // New sessions, and what every call after the opening asks first.
-ghost use Rattle.std.specs.Prelude.{◌≡◌, []};
-ghost use Rattle.control.specs.Problems.{setup};
-ghost use Rattle.control.specs.Systems.{system};
-ghost use Rattle.sessions.specs.Calls.{gated, later};
-ghost use Rattle.sessions.specs.Status.{closed, status};
+ghost use Rattle.std.specs.Prelude.{◌≡◌, MatchResult, true, false};
+ghost use Rattle.control.specs.Arrangements.{meant};
+ghost use Rattle.pairs.specs.Numbered.{numbered};
+ghost use Rattle.sessions.specs.Calls.{same_counts, site as site_of};
+ghost use Rattle.sessions.specs.Status.{closed, running, status};
 
+use super::{Open, Session, Site};
 use crate::call::Refusal;
-use crate::session::{Round, Session, Site};
-use control::Problem;
+use control::Arrangement;
+use pairs::Numbered;
 use plants::Plant;
 
 impl Session {
@@ -15,39 +16,35 @@ impl Session {
     pub fn new() -> Session
         ensures { status result ≡ closed }
     {
-        let site = Site {
-            estimate: 0,
-            ballot: None,
-        };
-        Session {
-            started: false,
-            plant_count: 0,
-            spec_count: 0,
-            site_count: 0,
-            state: 0,
-            sites: [site, site, site, site],
-            round: Round::Voting,
-        }
+        Session { open: None }
     }
+}
 
-    // Whether the session is open and what is brought has the counts of its opening.
-    pub(crate) fn admit<P: Plant, S: Plant>(
+impl Open {
+    // The pairs of what is brought, if it has the counts of the opening.
+    pub(crate) fn admit<'a, P: Plant, S: Plant>(
         &self,
-        problem: &Problem,
-        plant: &P,
-        spec: &S,
-    ) -> Result<(), Refusal>
-        ensures { result ≡ gated (later (system (setup problem.now) (P.Plant.meaning plant.now) (S.Plant.meaning spec.now)) (status self.now) []) tt }
+        arrangement: &'a Arrangement<'a, P, S>,
+    ) -> Result<Numbered<'a, P, S>, Refusal>
+        ensures { MatchResult result (λ n. (same_counts (meant arrangement.now) (running self.now) ≡ true) × (numbered n ≡ meant arrangement.now)) (λ x. (same_counts (meant arrangement.now) (running self.now) ≡ false) × (x ≡ Refusal.CountDiffers)) }
     {
-        if !self.started {
-            return Err(Refusal::Closed);
-        }
-        if self.plant_count != plant.count()
-            || self.spec_count != spec.count()
-            || self.site_count != problem.sites()
+        if self.plant_count != arrangement.plant.count()
+            || self.spec_count != arrangement.spec.count()
+            || self.site_count != arrangement.problem.sites()
         {
             return Err(Refusal::CountDiffers);
         }
-        Ok(())
+        Ok(Numbered::of(arrangement).unwrap())
+    }
+
+    // A site's record; sites are numbered from 1.
+    pub(crate) fn record(&self, site: u8) -> Site
+        ensures { result ≡ site_of (running self.now) site }
+    {
+        let place = (site as usize).saturating_sub(1);
+        self.sites.get(place).copied().unwrap_or(Site {
+            estimate: 0,
+            ballot: None,
+        })
     }
 }

@@ -1,18 +1,17 @@
 // Opening a session.
-ghost use Rattle.std.specs.Prelude.{◌≡◌, ◌*◌, ◌≤◌, if◌then◌else◌};
-ghost use Rattle.control.specs.Problems.{setup};
-ghost use Rattle.control.specs.Systems.{system};
-ghost use Rattle.theory.specs.Estimates.{pairs};
+ghost use Rattle.std.specs.Prelude.{◌≡◌, if◌then◌else◌};
+ghost use Rattle.control.specs.Arrangements.{meant};
 ghost use Rattle.checking.specs.Answers.{Checked};
-ghost use Rattle.sites.specs.Sites.{most_pairs};
-ghost use Rattle.sessions.specs.Calls.{Does, first_site, first_sites, is_clear, opened};
+ghost use Rattle.pairs.specs.Numbered.{numbered};
+ghost use Rattle.sessions.specs.Calls.{Does, first_site, is_clear, opened};
 ghost use Rattle.sessions.specs.Histories.{ClearExactly};
-ghost use Rattle.sessions.specs.Status.{status};
+ghost use Rattle.sessions.specs.Status.{running, status};
 
+use super::{Open, Session, Site};
 use crate::call::{Call, Reply};
-use crate::session::{Round, Session, Site};
 use checking::{Refusal as Unchecked, Verdict, check};
-use control::Problem;
+use control::Arrangement;
+use pairs::Numbered;
 use plants::Plant;
 use sites::first_estimate;
 use theory::Move;
@@ -22,78 +21,47 @@ impl Session {
     // session stays as it was found. Cells and trace are lent to the check.
     pub fn open<P: Plant, S: Plant>(
         &mut self,
-        problem: &Problem,
-        plant: &P,
-        spec: &S,
+        arrangement: &Arrangement<'_, P, S>,
         cells: &mut [u64],
         trace: &mut [Move],
     ) -> Result<Verdict, Unchecked>
-        ensures does { Does (system (setup problem.now) (P.Plant.meaning plant.now) (S.Plant.meaning spec.now)) (status self.old) Call.Open (Reply.Checked result) (status self.new) }
-        ensures checked { Checked (system (setup problem.now) (P.Plant.meaning plant.now) (S.Plant.meaning spec.now)) cells.old cells.new trace.old trace.new result }
-        ensures after { status self.new ≡ (if is_clear result then opened (system (setup problem.now) (P.Plant.meaning plant.now) (S.Plant.meaning spec.now)) else status self.old) }
-        ensures clear { ClearExactly (system (setup problem.now) (P.Plant.meaning plant.now) (S.Plant.meaning spec.now)) result }
+        ensures does { Does (meant arrangement.now) (status self.old) Call.Open (Reply.Checked result) (status self.new) }
+        ensures checked { Checked (meant arrangement.now) cells.old cells.new trace.old trace.new result }
+        ensures after { status self.new ≡ (if is_clear result then opened (meant arrangement.now) else status self.old) }
+        ensures clear { ClearExactly (meant arrangement.now) result }
     {
-        self.begin(problem, plant, spec, cells, trace)
-    }
-
-    // The call itself.
-    fn begin<P: Plant, S: Plant>(
-        &mut self,
-        problem: &Problem,
-        plant: &P,
-        spec: &S,
-        cells: &mut [u64],
-        trace: &mut [Move],
-    ) -> Result<Verdict, Unchecked>
-        ensures checked { Checked (system (setup problem.now) (P.Plant.meaning plant.now) (S.Plant.meaning spec.now)) cells.old cells.new trace.old trace.new result }
-        ensures after { status self.new ≡ (if is_clear result then opened (system (setup problem.now) (P.Plant.meaning plant.now) (S.Plant.meaning spec.now)) else status self.old) }
-        ensures clear { ClearExactly (system (setup problem.now) (P.Plant.meaning plant.now) (S.Plant.meaning spec.now)) result }
-    {
-        let verdict = check(problem, plant, spec, cells, trace)?;
+        let verdict = check(arrangement, cells, trace)?;
         if let Verdict::Clear = verdict {
-            *self = started(problem, plant, spec);
+            let pairs = Numbered::of(arrangement).unwrap();
+            self.open = Some(Open::new(&pairs));
         }
         Ok(verdict)
     }
 }
 
-// A session at its start.
-fn started<P: Plant, S: Plant>(problem: &Problem, plant: &P, spec: &S) -> Session
-    requires few { (P.Plant.meaning plant.now).count * (S.Plant.meaning spec.now).count ≤ 64 }
-    requires room { pairs (system (setup problem.now) (P.Plant.meaning plant.now) (S.Plant.meaning spec.now)) ≤ most_pairs }
-    ensures { status result ≡ opened (system (setup problem.now) (P.Plant.meaning plant.now) (S.Plant.meaning spec.now)) }
-{
-    let sites = first_sites(problem, plant, spec);
-    Session {
-        started: true,
-        plant_count: plant.count(),
-        spec_count: spec.count(),
-        site_count: problem.sites(),
-        state: plant.first(),
-        sites,
-        round: Round::Voting,
+impl Open {
+    // A session at its start.
+    fn new<P: Plant, S: Plant>(pairs: &Numbered<'_, P, S>) -> Open
+        ensures { running result ≡ opened (numbered pairs.now) }
+    {
+        let arrangement = pairs.arrangement;
+        Open {
+            plant_count: arrangement.plant.count(),
+            spec_count: arrangement.spec.count(),
+            site_count: arrangement.problem.sites(),
+            state: arrangement.plant.first(),
+            sites: [1, 2, 3, 4].map(|site| first_site(pairs, site)),
+            settled: None,
+        }
     }
 }
 
-// The sites' records at the start.
-fn first_sites<P: Plant, S: Plant>(problem: &Problem, plant: &P, spec: &S) -> [Site; 4]
-    requires { pairs (system (setup problem.now) (P.Plant.meaning plant.now) (S.Plant.meaning spec.now)) ≤ most_pairs }
-    ensures { result ≡ first_sites (system (setup problem.now) (P.Plant.meaning plant.now) (S.Plant.meaning spec.now)) }
-{
-    [
-        first_site(problem, plant, spec, 1),
-        first_site(problem, plant, spec, 2),
-        first_site(problem, plant, spec, 3),
-        first_site(problem, plant, spec, 4),
-    ]
-}
-
-fn first_site<P: Plant, S: Plant>(problem: &Problem, plant: &P, spec: &S, site: u8) -> Site
-    requires { pairs (system (setup problem.now) (P.Plant.meaning plant.now) (S.Plant.meaning spec.now)) ≤ most_pairs }
-    ensures { result ≡ first_site (system (setup problem.now) (P.Plant.meaning plant.now) (S.Plant.meaning spec.now)) site }
+// A site's record at the start.
+fn first_site<P: Plant, S: Plant>(pairs: &Numbered<'_, P, S>, site: u8) -> Site
+    ensures { result ≡ first_site (numbered pairs.now) site }
 {
     Site {
-        estimate: first_estimate(problem, plant, spec, site).unwrap(),
+        estimate: first_estimate(pairs, site),
         ballot: None,
     }
 }

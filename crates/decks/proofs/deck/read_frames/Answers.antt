@@ -3,7 +3,7 @@ use Rattle.std.proofs.lemmas.Result.{err_from_is_err_and}
 use Rattle.decks.specs.Order.{Placed}
 use Rattle.decks.specs.Reader.{state}
 use Rattle.decks.proofs.Shapes.{sound_placed}
-use Rattle.decks.proofs.Steps.{ended, stopped, taken_less, taken_more, whole}
+use Rattle.decks.proofs.Steps.{stopped, taken_less, taken_more, whole}
 use Rattle.decks.proofs.deck.read_frames.Goals as goal
 
 pub take-requires : goal.take-requires
@@ -23,13 +23,7 @@ loop-rest-smaller c = taken_less _ _ _ _ _ c.in_ok-rest.ensures
 pub loop-rest-preserved : goal.loop-rest-preserved
 loop-rest-preserved c = taken_more _ _ _ _ _ _ c.loop-rest.invariant c.in_ok-rest.ensures
 
-pub returns-in_err-deck : goal.returns-in_err-deck
-returns-in_err-deck c =
-    let p = err_from_is_err_and c.from_residual-in_err-deck.result c.from_residual-in_err-deck.ensures.1 in
-    let told = c.in_err-deck.ensures in
-    rw (p.1, p.2, told.0) (ended _ _ _ _ c.requires c.loop-rest.invariant (true-eqb _ 0 c.loop-rest-test.ensures) told.1)
-
 pub returns : goal.returns
 returns c =
-    let told = c.in_ok-deck.ensures in
-    whole _ _ _ _ c.in_ok-deck.deck c.requires c.loop-rest.invariant (true-eqb _ 0 c.loop-rest-test.ensures) told.1 told.0
+    let told = c.in_ok-finish.ensures in
+    whole _ _ _ _ c.in_ok-finish.field-0 c.requires c.loop-rest.invariant (true-eqb _ 0 c.loop-rest-test.ensures) told.1 told.0

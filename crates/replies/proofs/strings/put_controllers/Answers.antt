@@ -1,36 +1,26 @@
-use Rattle.std.proofs.Common.{◌≡◌, sym, ap, ◌∙◌, arith}
+use Rattle.std.proofs.Common.{◌≡◌, ◌+◌, ◌-◌, length, ap, arith}
+use borrow.Rule.Slice.PartMut.{put_mid}
 use Rattle.control.specs.Problems.{setup}
-use Rattle.checking.specs.Traces.{string_of}
-use Rattle.frames.specs.Replies.{written}
-use Rattle.replies.specs.Lines.{bytes_of, string, strings_to, text_of}
-use Rattle.replies.proofs.Appending.{nothing, onward, renamed, retold, strings_joins, strings_stay}
+use Rattle.replies.specs.Lines.{Begins, strings_to, text_of}
+use Rattle.replies.proofs.Appending.{onward, retold, strings_more}
 use Rattle.replies.proofs.strings.put_controllers.Goals as goal
-use Rattle.replies.proofs.strings.put_controllers.Goals.{then-controls, else-controls}
+use Rattle.replies.proofs.strings.put_controllers.Goals.{After-put_controller-count}
 
-pub loop-k-init : goal.loop-k-init
-loop-k-init c = (nothing c.args.out.now c.args.at, omega arith)
+-- with the string of one site more
+added : (c : After-put_controller-count) → Begins c.args.out.now (put_mid c.loop-site.count (length c.loop-site.out - c.loop-site.count) c.loop-site.out c.put_controller-count.new.out) (c.loop-site.count + c.put_controller-count.result) (text_of (strings_to (setup c.args.problem.now) c.args.event c.args.run.now c.loop-site.site))
+added c =
+    let i = c.loop-site.site in
+    retold (strings_more (setup c.args.problem.now) c.args.event c.args.run.now i (i - 1) (omega (arith, c.loop-site.auto.site))) (onward _ _ c.loop-site.invariant.written c.put_controller-count.ensures.line)
 
-pub rising-site-requires : goal.rising-site-requires
-rising-site-requires c = omega (arith, c.loop-k-test.true, c.sites-k-end.ensures, c.args.problem.now.counts.3)
+pub loop-site-preserved : goal.loop-site-preserved
+loop-site-preserved c =
+    let same : c.loop-site.site ≡ c.loop-site.site + 1 - 1 = omega arith in
+    record {
+      written = retold (ap (λ n. text_of (strings_to (setup c.args.problem.now) c.args.event c.args.run.now n)) same) (added (goal.at.loop-site-preserved c).After-put_controller-count);
+      bound = omega (arith, c.loop-site.invariant.bound, c.put_controller-count.ensures.bound, c.loop-site.auto.site);
+    }
 
-pub loop-k-preserved : goal.loop-k-preserved
-loop-k-preserved c =
-    let p = setup c.args.problem.now in
-    let k = c.loop-k.k in
-    let was = c.loop-k.invariant in
-    let at = c.rising-site.ensures in
-    elim c.if-controls.branch [
-      | then-controls w ↦ (
-        renamed w.out-is w.place-is (retold (strings_joins p c.args.event c.args.run.now k (ap (λ i. p.controls i c.args.event) (sym at) ∙ sym c.controls.ensures ∙ w.if-controls.true)) (onward _ _ _ _ _ _ _ _ was.0 (retold (ap (λ i. written (bytes_of (string i (string_of p i c.args.run.now)))) at) w.put_string-place.ensures.line))),
-        omega (arith, w.place-is, w.put_string-place.ensures.bound, was.1),
-      )
-      | else-controls w ↦ (
-        renamed w.out-is w.place-is (retold (strings_stay p c.args.event c.args.run.now k (ap (λ i. p.controls i c.args.event) (sym at) ∙ sym c.controls.ensures ∙ w.if-controls.false)) was.0),
-        omega (arith, w.place-is, was.1),
-      )
-    ]
-
-pub returns : goal.returns
-returns c =
-    let all : c.loop-k.k ≡ c.args.problem.now.sites = omega (arith, c.loop-k-test.false, c.loop-k.auto.k-end, c.sites-k-end.ensures) in
-    retold (ap (λ n. text_of (strings_to (setup c.args.problem.now) c.args.event c.args.run.now n)) all) c.loop-k.invariant.0
+pub returns-2 : goal.returns-2
+returns-2 c =
+    let last : c.loop-site.site ≡ c.args.problem.now.sites = omega (arith, c.sites-site-end.ensures) in
+    retold (ap (λ n. text_of (strings_to (setup c.args.problem.now) c.args.event c.args.run.now n)) last) (added (goal.at.returns-2 c).After-put_controller-count)

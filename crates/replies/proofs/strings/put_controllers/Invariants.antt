@@ -1,10 +1,12 @@
-use Rattle.std.proofs.Common.{◌+◌, ◌*◌, ◌≤◌}
+use Rattle.std.proofs.Common.{◌-◌, ◌*◌, ◌≤◌}
 use Rattle.control.specs.Problems.{setup}
-use Rattle.replies.specs.Lines.{Appends, strings_to, text_of}
+use Rattle.replies.specs.Lines.{Begins, strings_to, text_of}
 use Rattle.replies.proofs.strings.put_controllers.Given as goal
 
--- the strings of the components so far are appended
-abbrev pub invariant-loop-k : goal.invariant-loop-k
-invariant-loop-k l =
-    Appends l.initial.out l.out l.at l.place (text_of (strings_to (setup l.problem) l.event l.run l.k))
-    × (l.place ≤ l.at + 517 * l.k)
+-- the strings of the sites so far are written
+abbrev pub invariant-loop-site : goal.invariant-loop-site
+invariant-loop-site l =
+    record {
+      written : Begins l.initial.out l.out l.count (text_of (strings_to (setup l.problem) l.event l.run (l.site - 1)));
+      bound : l.count ≤ 517 * (l.site - 1);
+    }

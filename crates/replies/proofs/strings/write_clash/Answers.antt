@@ -1,4 +1,4 @@
-use Rattle.std.proofs.Common.{◌≡◌, ◌+◌, true, leb, length, sym}
+use Rattle.std.proofs.Common.{length}
 use Rattle.std.proofs.lemmas.List.{append_assoc}
 use Rattle.std.proofs.lemmas.Bool.{and_from, le-leb}
 use Rattle.control.specs.Problems.{setup}
@@ -14,8 +14,7 @@ returns c =
     let run = c.args.run.now in
     let first = written (bytes_of (clash c.args.event (length run))) in
     let second = written (bytes_of (string 0 (string_of p 0 run))) in
-    let rest = text_of (strings_to p c.args.event run p.sites) in
-    let room : leb (c.args.at + 2594) (length c.args.out.now) ≡ true = sym c.if-not-has_room.ensures in (
-      and_from (leb (length run) 256) _ (le-leb (length run) 256 c.if-run-gt-MOST_MOVES.false) room,
-      retold (append_assoc first second rest) (onward _ _ _ _ _ _ _ _ (onward _ _ _ _ _ _ _ _ c.put-place.ensures c.put_string-place.ensures.line) c.put_controllers.ensures),
+    let rest = text_of (strings_to p c.args.event run p.sites) in (
+      and_from _ _ (le-leb (length run) 256 c.if-run-gt-MOST_MOVES.false) (le-leb 2594 (length c.args.out.now) c.if-out-lt-MOST_BYTES.false),
+      retold (append_assoc first second rest) (onward _ _ (onward _ _ c.put-count.ensures c.put_component-count.ensures.line) c.put_controllers-count.ensures),
     )

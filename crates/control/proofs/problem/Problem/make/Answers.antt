@@ -10,5 +10,5 @@ invariant_of-self c =
       below = fit.0;
       sights = kept_in_range c.args.events c.args.sites c.args.seen _ c.keep_rows-seen.ensures fit.1;
       controls = kept_in_range c.args.events c.args.sites c.args.controlled _ c.keep_rows-controlled.ensures fit.2;
-      chosen = eq-eqb _ _ c.if-modes-events_controlled.false;
+      chosen = eq-eqb _ _ (rw c.union-events_controlled.ensures at c.if-modes-events_controlled.false);
     }

@@ -1,18 +1,27 @@
-use Rattle.control.specs.Problems.{setup}
-use Rattle.control.specs.Systems.{Keeps, system}
-use Rattle.control.proofs.Sound.{setup_sound}
-use Rattle.sessions.specs.Status.{status}
-use Rattle.sessions.proofs.Promised.{after_event}
+use Rattle.std.proofs.Common.{Err, rules}
+use Rattle.control.specs.Arrangements.{meant}
+use Rattle.control.proofs.Arrangements.{keeps}
+use Rattle.sessions.specs.Status.{running, status}
+use Rattle.sessions.specs.declared.call.Refusal.TheVariants.{Closed}
+use Rattle.sessions.proofs.Promised.{event_legal, event_exact}
 use Rattle.sessions.proofs.session.Session.happen.Goals as goal
 
-pub returns : goal.returns
-returns g c =
-    let p = c.args.problem.now in
-    let w = system (setup p) (g.P.Plant.meaning c.args.plant.now) (g.S.Plant.meaning c.args.spec.now) in
-    let keeps : Keeps w = record { setup = setup_sound p; plant = g.met.P.Plant.lawful c.args.plant.now; spec = g.met.S.Plant.lawful c.args.spec.now } in
-    let does = c.advance.ensures in
-    record {
-      does = does;
-      legal = λ h past. (after_event w keeps p.counts.3 past c.args.event c.advance.result (status c.advance.new.self) does).0;
-      exactly = λ h past. (after_event w keeps p.counts.3 past c.args.event c.advance.result (status c.advance.new.self) does).1;
-    }
+pub returns-in_default-clause-legal : goal.returns-in_default-clause-legal
+returns-in_default-clause-legal g c = λ h past.
+    let a = c.args.arrangement.now in
+    event_legal (meant a) (keeps a) a.problem.now.counts.3 past c.args.event (Err Closed) (status c.args.self.now) (search rules)
+
+pub returns-in_default-clause-exactly : goal.returns-in_default-clause-exactly
+returns-in_default-clause-exactly g c = λ h past.
+    let a = c.args.arrangement.now in
+    event_exact (meant a) (keeps a) a.problem.now.counts.3 past c.args.event (Err Closed) (status c.args.self.now) (search rules)
+
+pub returns-clause-legal : goal.returns-clause-legal
+returns-clause-legal g c = λ h past.
+    let a = c.args.arrangement.now in
+    event_legal (meant a) (keeps a) a.problem.now.counts.3 past c.args.event c.happen.result (running c.happen.new.self) (search rules)
+
+pub returns-clause-exactly : goal.returns-clause-exactly
+returns-clause-exactly g c = λ h past.
+    let a = c.args.arrangement.now in
+    event_exact (meant a) (keeps a) a.problem.now.counts.3 past c.args.event c.happen.result (running c.happen.new.self) (search rules)

@@ -1,0 +1,10 @@
+// The pairs of an arrangement by their numbers.
+
+#![tactic(auto)]
+
+mod numbered;
+
+pub use numbered::{MOST_PAIRS, Numbered};
+
+#[cfg(test)]
+mod tests;

@@ -1,12 +1,16 @@
--- One turn of a replay: one more call with its reply, at the end of the lists, is the newest exchange of the history.
+-- One turn of a replay: one more call with its reply, at the end of the lists, is the newest exchange that was performed. And
+-- what was performed is a history.
 -- Assumes nothing.
 use Rattle.std.proofs.Common.{◌≡◌, ℕ, ◌+◌, ◌<◌, List, [], ◌∷◌, ◌++◌, reverse, length, get_or, take, sym, refl, ap, ◌∙◌, subst, arith, length-take-le}
 use mathlib.Core.List.{reverse-append}
 use Rattle.std.proofs.lemmas.List.{take_more}
 use Rattle.control.specs.Systems.{System}
 use Rattle.sessions.specs.Calls.{Does}
-use Rattle.sessions.specs.Histories.{History}
-use Rattle.sessions.specs.Histories.History.{next}
+use Rattle.sessions.specs.Histories.{Exchange, History}
+use Rattle.sessions.specs.Histories.History.{new as begun, next as further}
+use Rattle.theory.specs.declared.moves.Move.{Move}
+use Rattle.histories.specs.Performing.{Lent, Performed}
+use Rattle.histories.specs.Performing.Performed.{new, next}
 use Rattle.sessions.specs.Status.{Status}
 use Rattle.sessions.specs.declared.call.Call.{Call}
 use Rattle.sessions.specs.declared.call.Reply.{Reply}
@@ -26,7 +30,14 @@ exchanges_more calls rs k c r within long at =
     ∙ ap reverse (paired_more (take k calls) rs c r even)
     ∙ reverse-append (paired (take k calls) rs) ((c, r) ∷ [])
 
-pub one_more : (w : System) (calls : List Call) (rs rs' : List Reply) (k : ℕ) (c : Call) (r : Reply) (s s' : Status) → k < length calls → length rs ≡ k → c ≡ get_or calls k c → rs' ≡ rs ++ r ∷ [] → History w (exchanges (take k calls) rs) s → Does w s c r s' → History w (exchanges (take (k + 1) calls) rs') s'
-one_more w calls rs rs' k c r s s' within long at is past does =
-    let more = ap (exchanges (take (k + 1) calls)) is ∙ exchanges_more calls rs k c r within long at in
-    subst (λ h. History w h s') (sym more) (next past does)
+module _ (w : System) (cells : List ℕ) (trace : List Move) where
+  pub one_more : (calls : List Call) (rs rs' : List Reply) (k : ℕ) (c : Call) (r : Reply) (s s' : Status) (d d' : List ℕ) (t t' : List Move) → k < length calls → length rs ≡ k → c ≡ get_or calls k c → rs' ≡ rs ++ r ∷ []
+      → Performed w cells trace (exchanges (take k calls) rs) s d t → Does w s c r s' → Lent w c r d d' t t' → Performed w cells trace (exchanges (take (k + 1) calls) rs') s' d' t'
+  one_more calls rs rs' k c r s s' d d' t t' within long at is past does lent =
+      let more = ap (exchanges (take (k + 1) calls)) is ∙ exchanges_more calls rs k c r within long at in
+      subst (λ h. Performed w cells trace h s' d' t') (sym more) (next past does lent)
+
+  -- what was performed is a history
+  pub as_history : {h : List Exchange} {s : Status} {d : List ℕ} {t : List Move} → Performed w cells trace h s d t → History w h s
+  as_history new = begun
+  as_history (next past does lent) = further (as_history past) does

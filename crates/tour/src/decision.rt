@@ -1,7 +1,7 @@
 // What the check says of the two arrangements.
 use crate::office::{BOTH_SAY_YES, ONE_SAYS_YES, Offices};
 use checking::{Verdict, check, component};
-use control::Problem;
+use control::{Mode, Problem};
 use plants::{Event, Mask};
 use std::alloc::{AllocError, Global};
 use theory::Move;
@@ -51,14 +51,18 @@ pub fn blank_trace(heap: Global) -> Result<Vec<Move>, AllocError> {
 
 // The histories that a run spells: one that happened, and for each controller one that it cannot tell from it.
 fn explain(rt: &HostRuntime, problem: &Problem, event: Event, run: &[Move]) -> anyhow::Result<()> {
+    let (here, there) = match problem.mode(event) {
+        Mode::Conjunctive => ("a bad step", "legal"),
+        Mode::Disjunctive => ("legal", "a bad step"),
+    };
     print!(rt; "After ")?;
     history(rt, problem, run, 0)?;
-    println!(rt; ", event {event} is a bad step.")?;
+    println!(rt; ", event {event} is {here}.")?;
     for site in 1..=problem.sites() {
         if problem.controls(site, event) {
             print!(rt; "Site {site} cannot tell this from ")?;
             history(rt, problem, run, site)?;
-            println!(rt; ", after which event {event} is legal.")?;
+            println!(rt; ", after which event {event} is {there}.")?;
         }
     }
     Ok(())

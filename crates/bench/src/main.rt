@@ -7,7 +7,6 @@
 
 use checking::{Verdict, cells_for, check};
 use control::{Arrangement, Problem};
-use pairs::Numbered;
 use plants::{Counter, Product};
 use search::Graph;
 use std::io;
@@ -58,8 +57,8 @@ fn main(rt: HostRuntime) -> io::Result<()> {
     }
     let count = met(&cells);
     println!(rt; "For the last event {count} tuples were met.")?;
-    if let Some(pairs) = Numbered::of(&arrangement) {
-        let moves = Tuples::new(&pairs).moves();
+    if let Some(tuples) = Tuples::new(&arrangement) {
+        let moves = tuples.moves();
         println!(rt; "At each of them {moves} moves were tried.")?;
     }
     Ok(())

@@ -5,13 +5,13 @@
 ghost use Rattle.std.specs.Prelude.{◌≡◌};
 ghost use Rattle.control.specs.Arrangements.{meant};
 ghost use Rattle.sessions.specs.Status.{status};
-ghost use Rattle.replies.specs.Plays.{after_play, cast_to, play_reply, ready};
+ghost use Rattle.replies.specs.Plays.{after_play, cast_to, outcome_number, play_reply, ready};
 ghost use Rattle.replies.specs.Writing.{reply};
 
 use control::Arrangement;
-use plants::{Event, Plant};
+use plants::{Event, Plant, State};
 use replies::Reply;
-use sessions::Session;
+use sessions::{Refusal, Session};
 
 // Plays an event on a session, and answers the reply to it.
 // Kept: a session and an arrangement make no struct, since a session keeps none and is brought one at every call.
@@ -27,7 +27,7 @@ pub fn play<P: Plant, S: Plant>(
     prepare(session, arrangement);
     let allowed = session.allowed();
     let outcome = session.happen(arrangement, event);
-    Reply::Played(event, allowed, outcome.err())
+    Reply::Played(event, allowed, number(outcome))
 }
 
 // Casts the missing ballots, and settles the round if need be.
@@ -47,4 +47,11 @@ fn cast_missing<P: Plant, S: Plant>(session: &mut Session, arrangement: &Arrange
     for site in 1..=arrangement.problem.sites() {
         let _ = session.ballot(arrangement, site);
     }
+}
+
+// 0 for an event that happened, or the number of the refusal.
+fn number(outcome: Result<State, Refusal>) -> u8
+    ensures { result ≡ outcome_number outcome }
+{
+    outcome.err().map_or(0, Refusal::number)
 }

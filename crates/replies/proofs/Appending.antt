@@ -2,14 +2,14 @@
 -- output, and follows the pieces before it. The digits of bytes join in the same way, and a line feed makes a line of them.
 -- Assumes nothing.
 use Rattle.std.proofs.Common.{◌≡◌, ℕ, suc, ◌+◌, ◌-◌, ◌*◌, ◌/◌, ◌%◌, ◌<◌, ◌≤◌, List, [], ◌∷◌, ◌++◌, length, get_or, take, drop, sym, refl, ap, ◌∙◌, subst, add-one, arith, length-append, length-drop, length-take, take_all}
-use Rattle.std.proofs.lemmas.List.{append_assoc, append-nil, drop_all, drop-drop, take_more}
+use Rattle.std.proofs.lemmas.List.{append_assoc, append-nil, drop_all, drop-drop, length-take-le, take_more}
 use Rattle.std.proofs.Math.Seq.{take-append-add, drop-append-add}
 use borrow.Rule.Slice.PartMut.{put_mid}
 use Rattle.control.specs.Setup.{Setup}
 use Rattle.theory.specs.declared.moves.Move.{Move}
 use Rattle.frames.specs.Lines.{line_feed}
 use Rattle.frames.specs.Replies.{hex, written}
-use Rattle.replies.specs.Lines.{Begins, Reply, bytes_of, digits, string_if, strings_to, text_of}
+use Rattle.replies.specs.Lines.{Appends, Begins, Reply, bytes_of, digits, string_if, strings_to, text_of}
 
 -- what was written fits
 pub fits : {a b : List ℕ} {n : ℕ} {xs : List ℕ} → Begins a b n xs → n ≤ length b
@@ -38,6 +38,16 @@ module _ (b : List ℕ) (n : ℕ) where
         same_length = omega (arith, length-append xs c, p.count, q.same_length, ap length rest_all, length-drop n b, fits p, p.same_length);
       }
 
+-- what is written to the front of the rest of an output is written to the output from there on
+pub placed : {a c : List ℕ} {i m : ℕ} {xs : List ℕ} → i ≤ length a → Begins (rest a i) c m xs → Appends a (put_mid i (length a - i) a c) i (i + m) xs
+placed {a} {c} {i} {m} {xs} low p =
+    let before : Begins a a i (take i a) = record { count = sym (length-take-le i a low); front = refl; past = refl; same_length = refl } in
+    let whole = onward a i before p in
+    record { count = omega (arith, p.count); front = whole.front; past = whole.past; same_length = whole.same_length }
+
+pub nothing : (out : List ℕ) → Begins out out 0 []
+nothing out = record { count = refl; front = refl; past = refl; same_length = refl }
+
 pub digits_append : (xs ys : List ℕ) → digits (xs ++ ys) ≡ digits xs ++ digits ys
 digits_append [] ys = refl
 digits_append (b ∷ xs) ys = ap (λ l. hex (b / 16) ∷ hex (b % 16) ∷ l) (digits_append xs ys)
@@ -57,6 +67,11 @@ text_append (r ∷ rs) ss = ap (λ l. written (bytes_of r) ++ l) (text_append rs
 -- the same, with the bytes told in another way
 pub retold : {a b : List ℕ} {n : ℕ} {xs ys : List ℕ} → xs ≡ ys → Begins a b n xs → Begins a b n ys
 retold {a} {b} {n} same p = subst (Begins a b n) same p
+
+-- the same output and count, under other names
+pub renamed : {a b b' : List ℕ} {n n' : ℕ} {xs : List ℕ} → b' ≡ b → n' ≡ n → Begins a b n xs → Begins a b' n' xs
+renamed {a} {b} {b'} {n} {n'} {xs} out count p =
+    subst (λ o. Begins a o n' xs) (sym out) (subst (λ k. Begins a b k xs) (sym count) p)
 
 -- one byte more of a list of bytes
 pub digits_more : (bs : List ℕ) (i : ℕ) → i < length bs → digits (take i bs) ++ digits (get_or bs i 0 ∷ []) ≡ digits (take (i + 1) bs)

@@ -1,5 +1,5 @@
 -- Replies, and the lines that they are written as. Assumes nothing.
-use Rattle.std.specs.Prelude.{◌≡◌, ℕ, zero, suc, ◌/◌, ◌%◌, cond, List, [], ◌∷◌, ◌++◌, length, take, drop}
+use Rattle.std.specs.Prelude.{◌≡◌, ℕ, zero, suc, ◌+◌, ◌/◌, ◌%◌, cond, List, [], ◌∷◌, ◌++◌, length, take, drop}
 use Rattle.control.specs.Setup.{Setup}
 use Rattle.theory.specs.declared.moves.Move.{Move}
 use Rattle.checking.specs.Traces.{string_of}
@@ -51,6 +51,13 @@ clash_replies p e run = clash e (length run) ∷ string 0 (string_of p 0 run) �
 abbrev pub digits : List ℕ → List ℕ
 digits [] = []
 digits (b ∷ bs) = hex (b / 16) ∷ hex (b % 16) ∷ digits bs
+
+-- the bytes stand from place i to place j of an output, and the rest of it is as it was
+pub record Appends (out out' : List ℕ) (i j : ℕ) (bytes : List ℕ) : Type 0 where
+  pub count : j ≡ i + length bytes
+  pub front : take j out' ≡ take i out ++ bytes
+  pub past : drop j out' ≡ drop j out
+  pub same_length : length out' ≡ length out
 
 -- the bytes stand at the front of an output, n of them, and the rest of it is as it was
 pub record Begins (out out' : List ℕ) (n : ℕ) (bytes : List ℕ) : Type 0 where

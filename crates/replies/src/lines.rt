@@ -1,5 +1,5 @@
 // Writing to a lent output. Each function writes to the front of the output, and answers how many bytes it wrote.
-ghost use Rattle.std.specs.Prelude.{◌+◌, ◌*◌, ◌≤◌, [], ◌∷◌, length};
+ghost use Rattle.std.specs.Prelude.{◌≡◌, ◌+◌, ◌*◌, ◌≤◌, [], ◌∷◌, length, nat_le};
 ghost use Rattle.frames.specs.Replies.{written};
 ghost use Rattle.replies.specs.Lines.{Begins, digits};
 
@@ -8,6 +8,13 @@ use frames::{LINE_FEED, high_digit, low_digit};
 // The output has no room for what is to be written, or a run has more moves than replies can show.
 #[derive(Clone, Copy, PartialEq, Eq, Debug)]
 pub struct NoRoom;
+
+// Whether so many bytes are left from a place on.
+pub(crate) fn has_room(out: &[u8], at: usize, bytes: usize) -> bool
+    ensures { result ≡ nat_le (at + bytes) (length out.now) }
+{
+    bytes <= out.len() && at <= out.len() - bytes
+}
 
 pub(crate) fn put_text(out: &mut [u8], text: &[u8]) -> usize
     requires { length text.now ≤ length out.old }
@@ -18,7 +25,7 @@ pub(crate) fn put_text(out: &mut [u8], text: &[u8]) -> usize
 }
 
 // The two digits of a byte.
-fn put_byte(out: &mut [u8], byte: u8) -> usize
+pub(crate) fn put_byte(out: &mut [u8], byte: u8) -> usize
     requires { 2 ≤ length out.old }
     ensures { Begins out.old out.new result (digits (byte ∷ [])) }
 {

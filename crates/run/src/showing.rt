@@ -78,7 +78,7 @@ fn show_clash(problem: &Problem, event: Event, run: &[Move], out: &mut [u8]) -> 
     requires long { least_output ≤ length out.old }
     ensures { Begins out.old out.new result (text_of (clash_replies (setup problem.now) event run.now)) }
 {
-    write_clash(problem, event, run, out).unwrap()
+    write_clash(problem, event, run, out, 0).unwrap()
 }
 
 // One reply at the front of the output.
@@ -86,5 +86,5 @@ pub(crate) fn put(reply: Reply, out: &mut [u8]) -> usize
     requires { 15 ≤ length out.old }
     ensures { Begins out.old out.new result (written (bytes_of (said reply))) }
 {
-    reply.write(out).unwrap()
+    reply.write(out, 0).unwrap()
 }

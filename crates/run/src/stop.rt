@@ -47,9 +47,13 @@ impl Fault {
         ensures { reply result ≡ reply_of_fault self }
     {
         match self {
-            Fault::Text(fault) => Reply::Fault(fault.layer(), fault.line(), fault.number()),
-            Fault::Make(unmade) => Reply::Fault(Layer::Make, 1, unmade.number()),
-            Fault::Check(refusal) => Reply::Fault(Layer::Check, 0, refusal.number()),
+            Fault::Text(fault) => Reply::Fault(
+                fault.layer().number(),
+                fault.line(),
+                fault.number(),
+            ),
+            Fault::Make(unmade) => Reply::Fault(Layer::Make.number(), 1, unmade.number()),
+            Fault::Check(refusal) => Reply::Fault(Layer::Check.number(), 0, refusal.number()),
         }
     }
 }

@@ -1,15 +1,18 @@
 -- There is room for the pairs of a session: the counts of its opening multiply to at most 64. A void machine counts as one
 -- state, and no machine has more than 64.
 -- Assumes nothing.
-use Rattle.std.proofs.Common.{◌≡◌, ℕ, zero, suc, ◌*◌, ◌<◌, ◌≤◌, max, List, Some, None, Ok, Option, MatchOption, sym, refl, subst₂, arith}
+use Rattle.std.proofs.Common.{◌≡◌, ℕ, zero, suc, ◌*◌, ◌<◌, ◌≤◌, max, true, eqb, List, Some, None, Ok, Option, MatchOption, sym, refl, subst₂, arith}
 use Rattle.std.proofs.Math.Nat.{mul-le-mul}
 use Rattle.std.specs.Option.{IsSome}
+use Rattle.std.proofs.lemmas.Bool.{and_parts, eqb-true}
 use Rattle.control.specs.Systems.{System, Keeps}
 use Rattle.theory.specs.Estimates.{columns, pairs}
 use Rattle.theory.specs.declared.moves.Move.{Move}
 use Rattle.checking.specs.Answers.{Checked}
 use Rattle.checking.specs.declared.verdict.Verdict.{Verdict}
 use Rattle.checking.specs.declared.verdict.Verdict.TheVariants.{Clear, Clash}
+use Rattle.sessions.specs.Calls.{same_counts}
+use Rattle.sessions.specs.Status.{Status}
 
 at_least : (n : ℕ) → max (suc n) 1 ≡ suc n
 at_least n = omega arith
@@ -23,6 +26,13 @@ padded (suc a) (suc b) ha hb both = subst₂ (λ m n. m * n ≤ 64) (sym (at_lea
 given : {A : Type 0} (P : A → Type 0) (n : ℕ) (o : Option A) → MatchOption o (64 < n) P → n ≤ 64 → IsSome o
 given P n (Some x) h few = refl
 given P n None h few = absurd (omega arith)
+
+-- what is brought has the counts of the opening, so its counts multiply to as little
+pub brought : (w : System) (s : Status) → s.plant_count * s.spec_count ≤ 64 → same_counts w s ≡ true → w.plant.count * w.spec.count ≤ 64
+brought w s few same =
+    let (plant, rest) = and_parts (eqb s.plant_count w.plant.count) _ same in
+    let (spec, sites) = and_parts (eqb s.spec_count w.spec.count) _ rest in
+    subst₂ (λ m n. m * n ≤ 64) (eqb-true s.plant_count w.plant.count plant) (eqb-true s.spec_count w.spec.count spec) few
 
 module _ (w : System) where
   pub numbers : {A : Type 0} (P : A → Type 0) (o : Option A) → MatchOption o (64 < pairs w) P → Keeps w → w.plant.count * w.spec.count ≤ 64 → IsSome o

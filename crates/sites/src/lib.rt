@@ -1,17 +1,17 @@
-// A site's estimates and votes, for any two plants with few enough pairs.
+// A site's estimates and votes, for any two plants.
 
 #![tactic(auto)]
 
+mod arranged;
+pub mod by_number;
 mod estimates;
 mod reach;
 mod set;
 mod steps;
 mod votes;
 
-pub use estimates::{first_estimate, see};
-pub use reach::hidden_reach;
+pub use arranged::{first_estimate, hidden_reach, see, vote};
 pub use set::PairSet;
-pub use votes::vote;
 
 #[cfg(test)]
 mod tests;

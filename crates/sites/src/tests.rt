@@ -2,7 +2,6 @@
 // event 2, which is disjunctive, bad at first and legal after either of the others. Pair (p, q) has number 2 × p + q.
 use crate::{first_estimate, hidden_reach, see, vote};
 use control::{Arrangement, Problem};
-use pairs::Numbered;
 use plants::{Counter, Mask, Table};
 use std::alloc::Global;
 use std::test::Fail;
@@ -37,13 +36,28 @@ fn an_estimate_follows_what_the_site_sees(rt: HostRuntime) -> Result<(), Fail> {
     let plant = four_states(rt.alloc())?;
     let spec = one_first(rt.alloc())?;
     let arrangement = Arrangement::new(&problem, &plant, &spec);
-    let pairs = Numbered::of(&arrangement).expect(&rt, "8 pairs have numbers");
-    assert_eq!(rt; first_estimate(&pairs, 1), 161, "pairs 0, 5 and 7");
-    assert_eq!(rt; first_estimate(&pairs, 2), 137, "pairs 0, 3 and 7");
-    assert_eq!(rt; see(&pairs, 1, 161, 0), 136, "pairs 3 and 7");
-    assert_eq!(rt; see(&pairs, 1, 161, 255), 0, "no event");
-    assert_eq!(rt; hidden_reach(&pairs, 1, 258), 130, "there is no pair 8");
-    assert_eq!(rt; first_estimate(&pairs, 0), 169, "site 0 sees no event");
+    assert_eq!(rt;
+        first_estimate(&arrangement, 1),
+        Some(161),
+        "pairs 0, 5 and 7"
+    );
+    assert_eq!(rt;
+        first_estimate(&arrangement, 2),
+        Some(137),
+        "pairs 0, 3 and 7"
+    );
+    assert_eq!(rt; see(&arrangement, 1, 161, 0), Some(136), "pairs 3 and 7");
+    assert_eq!(rt; see(&arrangement, 1, 161, 255), Some(0), "no event");
+    assert_eq!(rt;
+        hidden_reach(&arrangement, 1, 258),
+        Some(130),
+        "there is no pair 8"
+    );
+    assert_eq!(rt;
+        first_estimate(&arrangement, 0),
+        Some(169),
+        "site 0 sees no event"
+    );
     Ok(())
 }
 
@@ -53,15 +67,17 @@ fn a_vote_is_by_the_kind_of_the_event(rt: HostRuntime) -> Result<(), Fail> {
     let plant = four_states(rt.alloc())?;
     let spec = one_first(rt.alloc())?;
     let arrangement = Arrangement::new(&problem, &plant, &spec);
-    let pairs = Numbered::of(&arrangement).expect(&rt, "8 pairs have numbers");
-    assert_eq!(rt; vote(&pairs, 1, 161), 0, "bad at pair 0");
-    assert_eq!(rt; vote(&pairs, 1, 136), 4, "bad at no pair");
-    assert_eq!(rt; vote(&pairs, 1, 0), 0, "an empty estimate");
-    assert_eq!(rt; vote(&pairs, 5, 136), 0, "site 5 controls no event");
+    assert_eq!(rt; vote(&arrangement, 1, 161), Some(0), "bad at pair 0");
+    assert_eq!(rt; vote(&arrangement, 1, 136), Some(4), "bad at no pair");
+    assert_eq!(rt; vote(&arrangement, 1, 0), Some(0), "an empty estimate");
+    assert_eq!(rt;
+        vote(&arrangement, 5, 136),
+        Some(0),
+        "site 5 controls no event"
+    );
     let conjunctive = two_sites(0)?;
     let arrangement = Arrangement::new(&conjunctive, &plant, &spec);
-    let pairs = Numbered::of(&arrangement).expect(&rt, "8 pairs have numbers");
-    assert_eq!(rt; vote(&pairs, 1, 161), 4, "legal at pair 5");
+    assert_eq!(rt; vote(&arrangement, 1, 161), Some(4), "legal at pair 5");
     Ok(())
 }
 
@@ -80,11 +96,17 @@ fn a_set_has_room_for_64_pairs(rt: HostRuntime) {
         limit: 8,
     };
     let arrangement = Arrangement::new(&problem, &eight, &eight);
-    let pairs = Numbered::of(&arrangement).expect(&rt, "64 pairs have numbers");
-    assert_eq!(rt; first_estimate(&pairs, 1), 0x8040_2010_0804_0201);
-    assert!(rt;
-        Numbered::of(&Arrangement::new(&problem, &eight, &nine)).is_none(),
+    assert_eq!(rt;
+        first_estimate(&arrangement, 1),
+        Some(0x8040_2010_0804_0201)
+    );
+    assert_eq!(rt;
+        first_estimate(&Arrangement::new(&problem, &eight, &nine), 1),
+        None,
         "72 pairs"
     );
-    assert!(rt; Numbered::of(&Arrangement::new(&problem, &nine, &eight)).is_none());
+    assert_eq!(rt;
+        vote(&Arrangement::new(&problem, &nine, &eight), 1, 0),
+        None
+    );
 }

@@ -21,12 +21,12 @@ impl Session {
 }
 
 impl Open {
-    // The pairs of what is brought, if it has the counts of the opening.
-    pub(crate) fn admit<'a, P: Plant, S: Plant>(
+    // Whether what is brought has the counts of the opening.
+    pub(crate) fn admit<P: Plant, S: Plant>(
         &self,
-        arrangement: &'a Arrangement<'a, P, S>,
-    ) -> Result<Numbered<'a, P, S>, Refusal>
-        ensures { MatchResult result (λ n. (same_counts (meant arrangement.now) (running self.now) ≡ true) × (numbered n ≡ meant arrangement.now)) (λ x. (same_counts (meant arrangement.now) (running self.now) ≡ false) × (x ≡ Refusal.CountDiffers)) }
+        arrangement: &Arrangement<'_, P, S>,
+    ) -> Result<(), Refusal>
+        ensures { MatchResult result (λ _. same_counts (meant arrangement.now) (running self.now) ≡ true) (λ x. (same_counts (meant arrangement.now) (running self.now) ≡ false) × (x ≡ Refusal.CountDiffers)) }
     {
         if self.plant_count != arrangement.plant.count()
             || self.spec_count != arrangement.spec.count()
@@ -34,7 +34,18 @@ impl Open {
         {
             return Err(Refusal::CountDiffers);
         }
-        Ok(Numbered::of(arrangement).unwrap())
+        Ok(())
+    }
+
+    // The pairs of what is brought, which has the counts of the opening.
+    pub(crate) fn pairs<'a, P: Plant, S: Plant>(
+        &self,
+        arrangement: &'a Arrangement<'a, P, S>,
+    ) -> Numbered<'a, P, S>
+        requires { same_counts (meant arrangement.now) (running self.now) ≡ true }
+        ensures { numbered result ≡ meant arrangement.now }
+    {
+        Numbered::of(arrangement).unwrap()
     }
 
     // A site's record; sites are numbered from 1.

@@ -12,7 +12,7 @@ use crate::call::{Call, Refusal, Reply};
 use control::Arrangement;
 use pairs::Numbered;
 use plants::{Event, Plant, State, contains};
-use sites::see;
+use sites::by_number::see;
 
 impl Session {
     // Moves the plant by an event, tells the sites that see it, starts a new round and answers the plant's state. On a
@@ -42,7 +42,7 @@ impl Open {
     ) -> Result<State, Refusal>
         ensures { Does (meant arrangement.now) (running self.old) (Call.Happen event) (Reply.Moved result) (running self.new) }
     {
-        let pairs = self.admit(arrangement)?;
+        self.admit(arrangement)?;
         if event >= arrangement.problem.events() {
             return Err(Refusal::NoEvent);
         }
@@ -54,6 +54,7 @@ impl Open {
             .plant
             .step(self.state, event)
             .ok_or(Refusal::NoStep)?;
+        let pairs = self.pairs(arrangement);
         self.sites = self.tell_all(&pairs, event);
         self.state = next;
         self.settled = None;

@@ -13,7 +13,7 @@ use checking::{Refusal as Unchecked, Verdict, check};
 use control::Arrangement;
 use pairs::Numbered;
 use plants::Plant;
-use sites::first_estimate;
+use sites::by_number::first_estimate;
 use theory::Move;
 
 impl Session {

@@ -9,7 +9,7 @@ use super::{Open, Session};
 use crate::call::{Call, Refusal, Reply};
 use control::Arrangement;
 use plants::{Mask, Plant};
-use sites::vote;
+use sites::by_number::vote;
 
 impl Session {
     // Answers and keeps one site's vote for this round.
@@ -37,14 +37,16 @@ impl Open {
     ) -> Result<Mask, Refusal>
         ensures { Does (meant arrangement.now) (running self.old) (Call.Ballot site) (Reply.Voted result) (running self.new) }
     {
-        let pairs = self.admit(arrangement)?;
+        self.admit(arrangement)?;
         if site < 1 || site > arrangement.problem.sites() {
             return Err(Refusal::NoSite);
         }
-        let record = &mut self.sites[site as usize - 1];
-        if record.ballot.is_some() {
+        let cast = self.sites[site as usize - 1].ballot;
+        if cast.is_some() {
             return Err(Refusal::HasVoted);
         }
+        let pairs = self.pairs(arrangement);
+        let record = &mut self.sites[site as usize - 1];
         let mask = vote(&pairs, site, record.estimate);
         record.ballot = Some(mask);
         Ok(mask)

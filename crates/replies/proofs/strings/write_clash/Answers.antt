@@ -1,20 +1,9 @@
-use Rattle.std.proofs.Common.{length}
-use Rattle.std.proofs.lemmas.List.{append_assoc}
-use Rattle.std.proofs.lemmas.Bool.{and_from, le-leb}
-use Rattle.control.specs.Problems.{setup}
-use Rattle.checking.specs.Traces.{string_of}
-use Rattle.frames.specs.Replies.{written}
-use Rattle.replies.specs.Lines.{bytes_of, clash, string, strings_to, text_of}
-use Rattle.replies.proofs.Appending.{onward, retold}
+use Rattle.std.proofs.Common.{length, sym, arith}
+use Rattle.std.proofs.lemmas.Bool.{and_from, le-leb, leb-true}
+use Rattle.replies.proofs.Appending.{placed}
 use Rattle.replies.proofs.strings.write_clash.Goals as goal
 
 pub returns : goal.returns
 returns c =
-    let p = setup c.args.problem.now in
-    let run = c.args.run.now in
-    let first = written (bytes_of (clash c.args.event (length run))) in
-    let second = written (bytes_of (string 0 (string_of p 0 run))) in
-    let rest = text_of (strings_to p c.args.event run p.sites) in (
-      and_from _ _ (le-leb (length run) 256 c.if-run-gt-MOST_MOVES.false) (le-leb 2594 (length c.args.out.now) c.if-out-lt-MOST_BYTES.false),
-      retold (append_assoc first second rest) (onward _ _ (onward _ _ c.put-count.ensures c.put_component-count.ensures.line) c.put_controllers-count.ensures),
-    )
+    let room = sym c.if-not-has_room.ensures in
+    (and_from _ _ (le-leb (length c.args.run.now) 256 c.if-run-gt-MOST_MOVES.false) room, placed (omega (arith, leb-true _ _ room)) c.put_clash.ensures)
